@@ -40,6 +40,7 @@ pub mod ListNumbers
 pub mod Placings
 pub mod ListBatches
 pub mod TitleReaders
+pub mod TouchedPatrons
 pub mod Pulls
 pub mod ListRows
 pub mod Replies

@@ -1,9 +1,11 @@
--- The patrons of a title's open loans and active holds are among its readers.
+-- The readers of a title are the patrons of its open loans and active holds.
 use Rattle.std.proofs.Common.{◌≡◌, ℕ, zero, suc, ◌<◌, ◌==◌, Bool, true, false, ◌||◌, ◌⊎◌, inl, inr, List, [], ◌∷◌, ◌++◌, map, refl, sym, ◌∙◌, ap, subst, arith}
 use Rattle.std.specs.Prelude.{Option, Some, None}
-use Rattle.std.specs.List.{list_any, Contains, AllByRecursion}
-use Rattle.std.proofs.lemmas.Bool.{eq-eqb}
+use Rattle.std.specs.List.{list_any, Contains}
+use Rattle.std.proofs.lemmas.Bool.{eq-eqb, eqb-true}
 use Rattle.std.proofs.lemmas.List.Folds.{list_any-append}
+use Rattle.terms.specs.declared.command.Command.{Command}
+use Rattle.terms.specs.declared.command.Command.TheVariants.{AmendTitle}
 use Rattle.terms.specs.declared.row.CopyRow.{CopyRow}
 use Rattle.terms.specs.declared.row.LoanRow.{LoanRow}
 use Rattle.terms.specs.declared.row.HoldRow.{HoldRow}
@@ -18,7 +20,7 @@ use Rattle.model.specs.Laws.{is_active_state}
 use Rattle.model.specs.Picture.{picture}
 use Rattle.model.specs.Places.{Loan, place}
 use Rattle.model.proofs.SettingRanges.{some-same}
-use Rattle.desk.specs.Touching.{IsAmong, Adds, IsListed, HasBorrower, HaveBorrowers, AreReaders}
+use Rattle.desk.specs.Touching.{IsAmong, Adds, AreExactly, HasLoanOf, HasLoanAmong, IsReader, IsReaderFor, borrower_of}
 use Rattle.desk.proofs.ListBatches.{copy-number}
 
 -- ---- lists
@@ -31,34 +33,55 @@ or-right : (x y : Bool) → y ≡ true → (x || y) ≡ true
 or-right true y e = refl
 or-right false y e = e
 
+or-either : (x y : Bool) → (x || y) ≡ true → (x ≡ true) ⊎ (y ≡ true)
+or-either true y e = inl refl
+or-either false y e = inr e
+
 pub among-first : (xs ys : List ℕ) (p : ℕ) → IsAmong xs p → IsAmong (xs ++ ys) p
 among-first xs ys p e = list_any-append (λ q. q == p) xs ys ∙ or-left (list_any (λ q. q == p) xs) (list_any (λ q. q == p) ys) e
 
 pub among-last : (xs ys : List ℕ) (p : ℕ) → IsAmong ys p → IsAmong (xs ++ ys) p
 among-last xs ys p e = list_any-append (λ q. q == p) xs ys ∙ or-right (list_any (λ q. q == p) xs) (list_any (λ q. q == p) ys) e
 
-among-self : (p : ℕ) (ps : List ℕ) → IsAmong (p ∷ ps) p
-among-self p ps = or-left (p == p) (list_any (λ q. q == p) ps) (eq-eqb p p refl)
+pub among-either : (xs ys : List ℕ) (p : ℕ) → IsAmong (xs ++ ys) p → IsAmong xs p ⊎ IsAmong ys p
+among-either xs ys p e =
+    or-either (list_any (λ q. q == p) xs) (list_any (λ q. q == p) ys) (sym (list_any-append (λ q. q == p) xs ys) ∙ e)
 
-pub all-then : {A : Type 0} (P : A → Type 0) (xs : List A) (y : A) → AllByRecursion P xs → P y → AllByRecursion P (xs ++ y ∷ [])
-all-then P [] y all here = (here, tt)
-all-then P (x ∷ xs) y all here = (all.0, all-then P xs y all.1 here)
+pub among-none : {A : Type 0} (p : ℕ) → IsAmong [] p → A
+among-none p e = let never : ⊥ = cc in absurd never
 
-all-of : {A : Type 0} (P Q : A → Type 0) (xs : List A) → ((x : A) → P x → Q x) → AllByRecursion P xs → AllByRecursion Q xs
-all-of P Q [] f all = tt
-all-of P Q (x ∷ xs) f all = (f x all.0, all-of P Q xs f all.1)
+among-one : (q p : ℕ) → q ≡ p → IsAmong (q ∷ []) p
+among-one q p same = or-left (q == p) false (eq-eqb q p same)
 
-all-in : {A : Type 0} (P : A → Type 0) (xs : List A) (x : A) → AllByRecursion P xs → Contains xs x → P x
-all-in P [] x all at = let lt : at.0 < 0 = at.1 in absurd (omega (arith, lt))
-all-in P (y ∷ xs) x all (zero, lt, is) = subst P is all.0
-all-in P (y ∷ xs) x all (suc k, lt, is) = all-in P xs x all.1 (k, omega (arith, lt), is)
+one-among : (q p : ℕ) → IsAmong (q ∷ []) p → q ≡ p
+one-among q p e = go (or-either (q == p) false e)
+  where
+    go : ((q == p) ≡ true) ⊎ (false ≡ true) → q ≡ p
+    go (inl here) = eqb-true q p here
+    go (inr e) = let never : ⊥ = cc in absurd never
 
-holder-among : (rows : List HoldRow) (r : HoldRow) → Contains rows r → IsAmong (map (λ x. x.patron) rows) r.patron
-holder-among [] r at = let lt : at.0 < 0 = at.1 in absurd (omega (arith, lt))
-holder-among (y ∷ rows) r (zero, lt, is) =
-    or-left (y.patron == r.patron) (list_any (λ q. q == r.patron) (map (λ x. x.patron) rows)) (eq-eqb y.patron r.patron (ap (λ (x : HoldRow). x.patron) is))
-holder-among (y ∷ rows) r (suc k, lt, is) =
-    or-right (y.patron == r.patron) (list_any (λ q. q == r.patron) (map (λ x. x.patron) rows)) (holder-among rows r (k, omega (arith, lt), is))
+-- ---- patrons who are added
+
+pub adds-none : (Is : ℕ → Type 0) (old : List ℕ) → ((p : ℕ) → Is p → ⊥) → Adds Is old old
+adds-none Is old none = record { only = λ p among. inl among; kept = λ p among. among; all = λ p is. absurd (none p is) }
+
+pub adds-then : (A B C : ℕ → Type 0) (x y z : List ℕ) → ((p : ℕ) → C p → A p ⊎ B p) → ((p : ℕ) → A p ⊎ B p → C p)
+    → Adds A x y → Adds B y z → Adds C x z
+adds-then A B C x y z apart joined first next = record {
+  only = λ p among. go p (next.only p among);
+  kept = λ p among. next.kept p (first.kept p among);
+  all = λ p is. from p (apart p is);
+}
+  where
+    early : (p : ℕ) → IsAmong x p ⊎ A p → IsAmong x p ⊎ C p
+    early p (inl old) = inl old
+    early p (inr is) = inr (joined p (inl is))
+    go : (p : ℕ) → IsAmong y p ⊎ B p → IsAmong x p ⊎ C p
+    go p (inl mid) = early p (first.only p mid)
+    go p (inr is) = inr (joined p (inr is))
+    from : (p : ℕ) → A p ⊎ B p → IsAmong z p
+    from p (inl is) = next.kept p (first.all p is)
+    from p (inr is) = next.all p is
 
 -- ---- borrowers
 
@@ -74,21 +97,83 @@ module _ (H : History) (inv : Invariant H) where
       let both : Loan l ≡ Loan m = sym first ∙ ap (place H) copy ∙ second in
       let result : l ≡ m = cc in result
 
-  pub borrower-listed : (copy : CopyRow) (found : Option LoanRow) (patrons : List ℕ) → IsLoanOf (picture H) copy.copy found → IsListed found patrons
-      → HasBorrower H patrons copy
-  borrower-listed copy (Some q) patrons is among l r at of_copy unended =
-      let number : q.loan ≡ l = one-loan q.loan l q r is.0 at (is.1 ∙ sym of_copy) is.2 unended in
-      let row : q ≡ r = some-same q r (sym is.0 ∙ ap (picture H).loans number ∙ at) in
-      ap (λ (x : LoanRow). list_any (λ q. q == x.patron) patrons) (sym row) ∙ among
-  borrower-listed copy None patrons is among l r at of_copy unended = absurd (is l r at of_copy unended)
+  pub borrower-added : (copy : ℕ) (found : Option LoanRow) (old : List ℕ) → IsLoanOf (picture H) copy found
+      → Adds (HasLoanOf H copy) old (old ++ borrower_of found)
+  borrower-added copy (Some q) old is = record {
+    only = λ p among. go p (among-either old (q.patron ∷ []) p among);
+    kept = λ p among. among-first old (q.patron ∷ []) p among;
+    all = λ p has.
+        let l = has.0 in
+        let r = has.1 in
+        let at = has.2.0 in
+        let number : q.loan ≡ l = one-loan q.loan l q r is.0 at (is.1 ∙ sym has.2.1.0) is.2 has.2.1.1.0 in
+        let row : q ≡ r = some-same q r (sym is.0 ∙ ap (picture H).loans number ∙ at) in
+        among-last old (q.patron ∷ []) p (among-one q.patron p (ap (λ (x : LoanRow). x.patron) row ∙ has.2.1.1.1));
+  }
+    where
+      go : (p : ℕ) → IsAmong old p ⊎ IsAmong (q.patron ∷ []) p → IsAmong old p ⊎ HasLoanOf H copy p
+      go p (inl before) = inl before
+      go p (inr one) = inr (q.loan, q, is.0, is.1, is.2, one-among q.patron p one)
+  borrower-added copy None old is = record {
+    only = λ p among. go p (among-either old [] p among);
+    kept = λ p among. among-first old [] p among;
+    all = λ p has. absurd (is has.0 has.1 has.2.0 has.2.1.0 has.2.1.1.0);
+  }
+    where
+      go : (p : ℕ) → IsAmong old p ⊎ IsAmong [] p → IsAmong old p ⊎ HasLoanOf H copy p
+      go p (inl before) = inl before
+      go p (inr none) = among-none p none
 
-pub listed-last : (old : List ℕ) (q : LoanRow) → IsAmong (old ++ q.patron ∷ []) q.patron
-listed-last old q = among-last old (q.patron ∷ []) q.patron (among-self q.patron [])
+loan-apart : (H : History) (p : ℕ) (xs : List CopyRow) (c : CopyRow) → HasLoanAmong H (xs ++ c ∷ []) p → HasLoanAmong H xs p ⊎ HasLoanOf H c.copy p
+loan-apart H p [] c (inl has) = inr has
+loan-apart H p [] c (inr never) = absurd never
+loan-apart H p (x ∷ xs) c (inl has) = inl (inl has)
+loan-apart H p (x ∷ xs) c (inr rest) = go (loan-apart H p xs c rest)
+  where
+    go : HasLoanAmong H xs p ⊎ HasLoanOf H c.copy p → HasLoanAmong H (x ∷ xs) p ⊎ HasLoanOf H c.copy p
+    go (inl among) = inl (inr among)
+    go (inr has) = inr has
 
-pub borrowers-stay : (H : History) (old new : List ℕ) (copies : List CopyRow) → Adds old new → HaveBorrowers H old copies → HaveBorrowers H new copies
-borrowers-stay H old new copies adds all =
-    all-of (HasBorrower H old) (HasBorrower H new) copies
-    (λ copy has l r at of_copy unended. subst (λ (ps : List ℕ). IsAmong ps r.patron) (sym adds.1) (among-first old adds.0 r.patron (has l r at of_copy unended))) all
+loan-joined : (H : History) (p : ℕ) (xs : List CopyRow) (c : CopyRow) → HasLoanAmong H xs p ⊎ HasLoanOf H c.copy p → HasLoanAmong H (xs ++ c ∷ []) p
+loan-joined H p [] c (inl never) = absurd never
+loan-joined H p [] c (inr has) = inl has
+loan-joined H p (x ∷ xs) c (inl (inl has)) = inl has
+loan-joined H p (x ∷ xs) c (inl (inr among)) = inr (loan-joined H p xs c (inl among))
+loan-joined H p (x ∷ xs) c (inr has) = inr (loan-joined H p xs c (inr has))
+
+-- One copy's borrower more.
+pub borrowers-then : (H : History) (xs : List CopyRow) (c : CopyRow) (old mid new : List ℕ) → Adds (HasLoanAmong H xs) old mid
+    → Adds (HasLoanOf H c.copy) mid new → Adds (HasLoanAmong H (xs ++ c ∷ [])) old new
+borrowers-then H xs c old mid new =
+    adds-then (HasLoanAmong H xs) (HasLoanOf H c.copy) (HasLoanAmong H (xs ++ c ∷ [])) old mid new
+    (λ p has. loan-apart H p xs c has) (λ p has. loan-joined H p xs c has)
+
+loan-at : (H : History) (p : ℕ) (xs : List CopyRow) (c : CopyRow) → Contains xs c → HasLoanOf H c.copy p → HasLoanAmong H xs p
+loan-at H p [] c at has = let lt : at.0 < 0 = at.1 in absurd (omega (arith, lt))
+loan-at H p (x ∷ xs) c (zero, lt, is) has = inl (subst (λ (y : CopyRow). HasLoanOf H y.copy p) (sym is) has)
+loan-at H p (x ∷ xs) c (suc k, lt, is) has = inr (loan-at H p xs c (k, omega (arith, lt), is) has)
+
+loan-in : (H : History) (p : ℕ) (xs : List CopyRow) → HasLoanAmong H xs p → (c : CopyRow) × Contains xs c × HasLoanOf H c.copy p
+loan-in H p [] never = absurd never
+loan-in H p (x ∷ xs) (inl has) = (x, (0, omega arith, refl), has)
+loan-in H p (x ∷ xs) (inr rest) = let more = loan-in H p xs rest in (more.0, (suc more.1.0, omega (arith, more.1.1), more.1.2), more.2)
+
+-- ---- holders
+
+holder-among : (rows : List HoldRow) (r : HoldRow) → Contains rows r → IsAmong (map (λ x. x.patron) rows) r.patron
+holder-among [] r at = let lt : at.0 < 0 = at.1 in absurd (omega (arith, lt))
+holder-among (y ∷ rows) r (zero, lt, is) =
+    or-left (y.patron == r.patron) (list_any (λ q. q == r.patron) (map (λ x. x.patron) rows)) (eq-eqb y.patron r.patron (ap (λ (x : HoldRow). x.patron) is))
+holder-among (y ∷ rows) r (suc k, lt, is) =
+    or-right (y.patron == r.patron) (list_any (λ q. q == r.patron) (map (λ x. x.patron) rows)) (holder-among rows r (k, omega (arith, lt), is))
+
+among-holder : (rows : List HoldRow) (p : ℕ) → IsAmong (map (λ x. x.patron) rows) p → (r : HoldRow) × Contains rows r × (r.patron ≡ p)
+among-holder [] p e = among-none p e
+among-holder (y ∷ rows) p e = go (or-either (y.patron == p) (list_any (λ q. q == p) (map (λ x. x.patron) rows)) e)
+  where
+    go : ((y.patron == p) ≡ true) ⊎ IsAmong (map (λ x. x.patron) rows) p → (r : HoldRow) × Contains (y ∷ rows) r × (r.patron ≡ p)
+    go (inl here) = (y, (0, omega arith, refl), eqb-true y.patron p here)
+    go (inr later) = let more = among-holder rows p later in (more.0, (suc more.1.0, omega (arith, more.1.1), more.1.2), more.2)
 
 -- ---- readers
 
@@ -99,16 +184,49 @@ active-as Filled e = let never : ⊥ = cc in absurd never
 active-as Cancelled e = let never : ⊥ = cc in absurd never
 active-as Expired e = let never : ⊥ = cc in absurd never
 
+as-active : (s : HoldState) → (s ≡ Waiting) ⊎ (s ≡ Ready) → is_active_state s ≡ true
+as-active s (inl is) = ap is_active_state is
+as-active s (inr is) = ap is_active_state is
+
 pub readers-are : (H : History) (title : ℕ) (copies : List CopyRow) (holds : List HoldRow) (borrowers readers : List ℕ)
-    → AreCopiesOf (picture H) title copies → HaveBorrowers H borrowers copies → AreHoldsOn (picture H) title holds
-    → readers ≡ borrowers ++ map (λ r. r.patron) holds → AreReaders H title readers
-readers-are H title copies holds borrowers readers of_title have on_title is = record {
-  lent = λ l r c at unended copy same.
-      let has = all-in (HasBorrower H borrowers) copies c have (of_title.whole r.copy c copy same) in
-      let number : c.copy ≡ r.copy = copy-number H r.copy c copy in
-      subst (λ (ps : List ℕ). IsAmong ps r.patron) (sym is)
-      (among-first borrowers (map (λ x. x.patron) holds) r.patron (has l r at (sym number) unended));
-  held = λ h r at active same.
-      subst (λ (ps : List ℕ). IsAmong ps r.patron) (sym is)
-      (among-last borrowers (map (λ x. x.patron) holds) r.patron (holder-among holds r (on_title.whole h r at (same, active-as r.state active))));
+    → AreCopiesOf (picture H) title copies → Adds (HasLoanAmong H copies) [] borrowers → AreHoldsOn (picture H) title holds
+    → readers ≡ borrowers ++ map (λ r. r.patron) holds → AreExactly (IsReader H title) readers
+readers-are H title copies holds borrowers readers of_title adds on_title is = record {
+  only = λ p among. from p (among-either borrowers (map (λ r. r.patron) holds) p (subst (λ (ps : List ℕ). IsAmong ps p) is among));
+  all = λ p reads. subst (λ (ps : List ℕ). IsAmong ps p) (sym is) (to p reads);
 }
+  where
+    lent : (p : ℕ) → IsAmong [] p ⊎ HasLoanAmong H copies p → IsReader H title p
+    lent p (inl none) = among-none p none
+    lent p (inr has) =
+        let found = loan-in H p copies has in
+        let c = found.0 in
+        let row = of_title.sound c found.1 in
+        let loan = found.2 in
+        inl (loan.0, loan.1, c, loan.2.0, loan.2.1.1.0, ap (picture H).copies loan.2.1.0 ∙ row.0, row.1, loan.2.1.1.1)
+    from : (p : ℕ) → IsAmong borrowers p ⊎ IsAmong (map (λ r. r.patron) holds) p → IsReader H title p
+    from p (inl borrows) = lent p (adds.only p borrows)
+    from p (inr waits) =
+        let found = among-holder holds p waits in
+        let r = found.0 in
+        let row = on_title.sound r found.1 in
+        inr (r.hold, r, row.0, as-active r.state row.1.1, row.1.0, found.2)
+    to : (p : ℕ) → IsReader H title p → IsAmong (borrowers ++ map (λ r. r.patron) holds) p
+    to p (inl has) =
+        let r = has.1 in
+        let c = has.2.0 in
+        let at = has.2.1.1.1.0 in
+        let number : c.copy ≡ r.copy = copy-number H r.copy c at in
+        among-first borrowers (map (λ x. x.patron) holds) p
+        (adds.all p (loan-at H p copies c (of_title.whole r.copy c at has.2.1.1.1.1.0)
+        (has.0, r, has.2.1.0, sym number, has.2.1.1.0, has.2.1.1.1.1.1)))
+    to p (inr has) =
+        let r = has.1 in
+        among-last borrowers (map (λ x. x.patron) holds) p
+        (subst (λ (q : ℕ). IsAmong (map (λ x. x.patron) holds) q) has.2.1.1.1
+        (holder-among holds r (on_title.whole has.0 r has.2.0 (has.2.1.1.0, active-as r.state has.2.1.0))))
+
+-- No other command has readers.
+pub no-readers : (H : History) (c : Command) → ((t : ℕ) (x : List ℕ) → c ≡ AmendTitle t x → ⊥) → AreExactly (IsReaderFor H c) []
+no-readers H (AmendTitle t x) other = absurd (other t x refl)
+no-readers H _ other = record { only = λ p e. among-none p e; all = λ p never. absurd never }

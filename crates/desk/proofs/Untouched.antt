@@ -1,5 +1,5 @@
 -- What a command leaves of the rows of a patron it doesn't touch.
-use Rattle.std.proofs.Common.{◌≡◌, ℕ, ◌==◌, Bool, true, false, cond, ◌||◌, not, ◌+◌, List, [], ◌∷◌, ◌++◌, take, refl, sym, ◌∙◌, ap, subst}
+use Rattle.std.proofs.Common.{◌≡◌, ℕ, ◌==◌, Bool, true, false, cond, ◌||◌, not, ◌+◌, inl, inr, List, [], ◌∷◌, ◌++◌, take, refl, sym, ◌∙◌, ap, subst}
 use Rattle.std.specs.Prelude.{Option, Some, None, option_map, is_some}
 use Rattle.std.specs.List.{list_any, cons_option, slice_get}
 use Rattle.std.proofs.lemmas.List.{take_more}
@@ -37,7 +37,7 @@ use Rattle.model.proofs.Runs.{after_one-legal}
 use Rattle.model.proofs.SettingRanges.{some-same, none-some}
 use Rattle.desk.specs.Answering.{added}
 use Rattle.desk.specs.Showing.{own_page}
-use Rattle.desk.specs.Touching.{patron_put, patrons_put, KeepsOthers, IsAmong, AreReadersFor}
+use Rattle.desk.specs.Touching.{patron_put, patrons_put, KeepsOthers, IsAmong, AreExactly, IsReaderFor}
 use Rattle.desk.specs.declared.showing.OwnPage.{OwnPage}
 use Rattle.desk.proofs.Leads.{added-none}
 
@@ -149,14 +149,14 @@ title-made : (n : ℕ) (o made : Option (List ℕ)) (x : TitleRow) → option_ma
 title-made n (Some y) made x row = row
 title-made n None made x row = absurd (none-some x row)
 
-titles-keep : (H : History) (o : Owner) (k : List ℕ) (c : Command) (readers : List ℕ) (p : ℕ) → AreReadersFor H c readers
+titles-keep : (H : History) (o : Owner) (k : List ℕ) (c : Command) (readers : List ℕ) (p : ℕ) → AreExactly (IsReaderFor H c) readers
     → list_any (λ q. q == p) readers ≡ false → KeepsOwnTitles (picture H) (picture (event o k c ∷ H)) p
 unfolding text-of
 titles-keep H o k (AmendTitle t text) readers p are out = record {
   lent = λ l r c x at own unended copy row.
-      title-amended t c.title text (title_of H c.title) x (λ same. apart readers p r.patron out (are.lent l r c at unended copy (sym same)) own) row;
+      title-amended t c.title text (title_of H c.title) x (λ same. apart readers p r.patron out (are.all r.patron (inl (l, r, c, at, unended, copy, sym same, refl))) own) row;
   held = λ h r x at own active row.
-      title-amended t r.title text (title_of H r.title) x (λ same. apart readers p r.patron out (are.held h r at active (sym same)) own) row;
+      title-amended t r.title text (title_of H r.title) x (λ same. apart readers p r.patron out (are.all r.patron (inr (h, r, at, active, sym same, refl))) own) row;
 }
 titles-keep H o k (Acquire copy t kind home price text) readers p are out = record {
   lent = λ l r c x at own unended copy row. title-made c.title (title_of H c.title) _ x row;
@@ -170,7 +170,7 @@ out-of-both xs ys p out = neither (list_any (λ q. q == p) xs) (list_any (λ q. 
 
 -- What a decision changes is the rows of the patrons whose rows it puts, and what its readers see.
 pub decided-others : (H : History) (o : Owner) (k : List ℕ) (c : Command) (d : Decision) → IsDecision H c d → refusal H o c ≡ refusal H Desk c
-    → (readers : List ℕ) → AreReadersFor H c readers → (touched : List ℕ) → touched ≡ readers ++ patrons_put d.changes
+    → (readers : List ℕ) → AreExactly (IsReaderFor H c) readers → (touched : List ℕ) → touched ≡ readers ++ patrons_put d.changes
     → KeepsOthers touched H (added H (event o k c))
 decided-others H o k c d is same readers are touched put_by =
     subst (λ (qs : List ℕ). KeepsOthers qs H (added H (event o k c))) (sym put_by)

@@ -30,7 +30,7 @@ use Rattle.model.specs.Forms.{HasForms}
 use Rattle.model.specs.Laws.{AgreesOn}
 use Rattle.model.specs.Requests.{IsLegal, is_known, may_send, kept_of, event_of, reply_by_key, reply_to, after_one}
 use Rattle.desk.specs.Callers.{RefusesForeign}
-use Rattle.desk.specs.Touching.{KeepsOthers, AreReadersFor}
+use Rattle.desk.specs.Touching.{KeepsOthers, AreExactly, IsAmong, IsReaderFor, IsTouched}
 
 -- ---- tables that show a history
 
@@ -97,11 +97,11 @@ RefusesAnothers o c H None = refusal H o c ≡ refusal H Desk c
 abbrev pub Knows : Caller → History → Bool → Type 0
 Knows caller H known = known ≡ is_known H caller
 
--- The view holds the rows that the command needs, the owner has no refusal beyond the desk's, and the readers
--- of what it changes are among these.
+-- The view holds the rows that the command needs, the owner has no refusal beyond the desk's, and these are
+-- the readers of what it changes.
 abbrev pub IsViewFor : Owner → Command → View → List ℕ → History → Type 0
 IsViewFor owner command view readers H = IsViewOf (picture H) command view
-    × (refusal H owner command ≡ refusal H Desk command) × AreReadersFor H command readers
+    × (refusal H owner command ≡ refusal H Desk command) × AreExactly (IsReaderFor H command) readers
 
 -- The history with the event, unless the event is refused.
 abbrev pub added : History → Event → History
@@ -225,3 +225,15 @@ abbrev pub TouchesOnly : {S : Type 0} → Request → List ℕ → Ghosts S → 
     → Result Reply Fault → Type 0
 TouchesOnly request touched g old new result = IsClean g new → IfOk result
     (λ _. (H : History) → Shows (state g old) H → KeepsOthers touched H (after_one H request))
+
+-- Nobody is named as touched whose page the command leaves as it is, if the list of accepted requests
+-- satisfies `If`.
+abbrev pub NamesIf : {S : Type 0} → (History → Type 0) → Command → List ℕ → Ghosts S → Held S → Held S
+    → Result Reply Fault → Type 0
+NamesIf If command touched g old new result = IsClean g new → OnOk result
+    ((H : History) → Shows (state g old) H → If H → (p : ℕ) → IsAmong touched p → IsTouched H command p)
+
+-- For any list of accepted requests.
+abbrev pub NamesTouched : {S : Type 0} → Command → List ℕ → Ghosts S → Held S → Held S
+    → Result Reply Fault → Type 0
+NamesTouched = NamesIf (λ _. Unit {0})

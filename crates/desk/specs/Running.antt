@@ -17,6 +17,7 @@ use Rattle.model.specs.Requests.{after, after_one, replies as replies_to}
 use Rattle.desk.specs.Answering.{Handled, Shows, LeavesOneOf, Learns, IsPageFor, IsOwnPageFor}
 use Rattle.desk.specs.Headline.{Headline}
 use Rattle.desk.specs.Showing.{own_page}
+use Rattle.desk.specs.Touching.{IsAmong, IsTouched}
 
 -- A store was dropped because its tables show no list of accepted requests. Nothing was changed if the
 -- database was still open.
@@ -72,6 +73,9 @@ pub record HandlesTouching {S : Type 0} (request : Request)
   -- all other patrons' pages and card keys are unchanged
   pub kept : IsClean g new → IfOk result (λ told. (H : History) → Shows (state g old) H → (p : ℕ)
       → list_any (λ q. q == p) told.1 ≡ false → own_page (after_one H request) p ≡ own_page H p)
+  -- and nobody is named but whom the command touches
+  pub named : IsClean g new → IfOk result (λ told. (H : History) → Shows (state g old) H → (p : ℕ)
+      → IsAmong told.1 p → IsTouched H request.command p)
 
 -- A patron who shows a card key got their own page or was refused.
 pub record ShowsPage {S : Type 0} (patron : ℕ) (card_key : List ℕ)

@@ -1,13 +1,17 @@
 -- Which patrons' own rows a command changes.
-use Rattle.std.specs.Prelude.{◌≡◌, ◌==◌, ℕ, true, false, List, ◌++◌, Option, Some, None}
-use Rattle.std.specs.List.{list_any, filter_map, AllByRecursion}
+use Rattle.std.specs.Prelude.{◌≡◌, ◌==◌, ◌⊎◌, ℕ, true, false, List, [], ◌∷◌, Option, Some, None, Ok}
+use Rattle.std.specs.List.{list_any, filter_map}
 use Rattle.terms.specs.declared.command.Command.{Command}
 use Rattle.terms.specs.declared.command.Command.TheVariants.{AmendTitle}
 use Rattle.terms.specs.declared.row.CopyRow.{CopyRow}
 use Rattle.terms.specs.declared.row.LoanRow.{LoanRow}
 use Rattle.terms.specs.declared.row.HoldRow.{HoldRow}
+use Rattle.circ_core.specs.Deciding.{DecidesOn}
+use Rattle.circ_core.specs.Views.{IsViewOf}
+use Rattle.circ_core.specs.declared.changes.Decision.{Decision}
 use Rattle.circ_core.specs.declared.changes.RowChange.{RowChange}
 use Rattle.circ_core.specs.declared.changes.RowChange.TheVariants.{PutPatron, PutLoan, PutHold}
+use Rattle.circ_core.specs.declared.views.View.{View}
 use Rattle.model.specs.History.{History}
 use Rattle.model.specs.Laws.{KeepsOwnRows, KeepsOwnTitles, is_active_state}
 use Rattle.model.specs.Picture.{picture}
@@ -35,30 +39,56 @@ KeepsOthers touched H K = (p : ℕ) → list_any (λ q. q == p) touched ≡ fals
 abbrev pub IsAmong : List ℕ → ℕ → Type 0
 IsAmong patrons p = list_any (λ q. q == p) patrons ≡ true
 
--- Patrons were added at the end.
-abbrev pub Adds : List ℕ → List ℕ → Type 0
-Adds old new = (added : List ℕ) × (new ≡ old ++ added)
+-- These patrons are those of whom this holds, and no others.
+pub record AreExactly (Is : ℕ → Type 0) (patrons : List ℕ) : Type 0 where
+  pub only : (p : ℕ) → IsAmong patrons p → Is p
+  pub all : (p : ℕ) → Is p → IsAmong patrons p
 
--- The patron of the loan, if there is one, is among these.
-abbrev pub IsListed : Option LoanRow → List ℕ → Type 0
-IsListed (Some row) patrons = IsAmong patrons row.patron
-IsListed None patrons = Unit {0}
+-- To the patrons were added those of whom this holds, and no others.
+pub record Adds (Is : ℕ → Type 0) (old new : List ℕ) : Type 0 where
+  pub only : (p : ℕ) → IsAmong new p → IsAmong old p ⊎ Is p
+  pub kept : (p : ℕ) → IsAmong old p → IsAmong new p
+  pub all : (p : ℕ) → Is p → IsAmong new p
 
--- The patron of an open loan of the copy is among these.
-abbrev pub HasBorrower : History → List ℕ → CopyRow → Type 0
-HasBorrower H patrons copy = (l : ℕ) (r : LoanRow) → (picture H).loans l ≡ Some r → r.copy ≡ copy.copy → r.ended ≡ None → IsAmong patrons r.patron
+-- The patron of the loan, if there is one.
+abbrev pub borrower_of : Option LoanRow → List ℕ
+borrower_of (Some row) = row.patron ∷ []
+borrower_of None = []
 
--- The patrons of all open loans of these copies are among these.
-abbrev pub HaveBorrowers : History → List ℕ → List CopyRow → Type 0
-HaveBorrowers H patrons copies = AllByRecursion (HasBorrower H patrons) copies
+-- The patron has an open loan of the copy.
+abbrev pub HasLoanOf : History → ℕ → ℕ → Type 0
+HasLoanOf H copy p = (l : ℕ) × (r : LoanRow) × ((picture H).loans l ≡ Some r) × (r.copy ≡ copy) × (r.ended ≡ None) × (r.patron ≡ p)
 
--- The patrons with an open loan of a copy of the title, or with an active hold on it, are among these.
-pub record AreReaders (H : History) (title : ℕ) (patrons : List ℕ) : Type 0 where
-  pub lent : (l : ℕ) (r : LoanRow) (c : CopyRow) → (picture H).loans l ≡ Some r → r.ended ≡ None
-      → (picture H).copies r.copy ≡ Some c → c.title ≡ title → IsAmong patrons r.patron
-  pub held : (h : ℕ) (r : HoldRow) → (picture H).holds h ≡ Some r → is_active_state r.state ≡ true → r.title ≡ title → IsAmong patrons r.patron
+-- The patron has an open loan of one of these copies.
+abbrev pub HasLoanAmong : History → List CopyRow → ℕ → Type 0
+HasLoanAmong H [] p = ⊥
+HasLoanAmong H (copy ∷ copies) p = HasLoanOf H copy.copy p ⊎ HasLoanAmong H copies p
+
+-- The patron has an open loan of a copy of the title.
+abbrev pub HasLoan : History → ℕ → ℕ → Type 0
+HasLoan H title p = (l : ℕ) × (r : LoanRow) × (c : CopyRow) × ((picture H).loans l ≡ Some r) × (r.ended ≡ None)
+    × ((picture H).copies r.copy ≡ Some c) × (c.title ≡ title) × (r.patron ≡ p)
+
+-- The patron has an active hold on the title.
+abbrev pub HasHold : History → ℕ → ℕ → Type 0
+HasHold H title p = (h : ℕ) × (r : HoldRow) × ((picture H).holds h ≡ Some r) × (is_active_state r.state ≡ true) × (r.title ≡ title) × (r.patron ≡ p)
+
+-- The page of the patron shows the title.
+abbrev pub IsReader : History → ℕ → ℕ → Type 0
+IsReader H title p = HasLoan H title p ⊎ HasHold H title p
 
 -- An amend-title changes what its title's readers see; no other command changes a text that is there.
-abbrev pub AreReadersFor : History → Command → List ℕ → Type 0
-AreReadersFor H (AmendTitle title text) patrons = AreReaders H title patrons
-AreReadersFor H _ patrons = Unit {0}
+abbrev pub IsReaderFor : History → Command → ℕ → Type 0
+IsReaderFor H (AmendTitle title text) p = IsReader H title p
+IsReaderFor H _ p = ⊥
+
+-- ---- whom a command touches
+
+-- The command's changes put a row of the patron's own: they are decided on the rows of its view.
+abbrev pub PutsOwnRow : History → Command → ℕ → Type 0
+PutsOwnRow H command p = (view : View) × (decision : Decision) × IsViewOf (picture H) command view
+    × DecidesOn view command (Ok decision) × IsAmong (patrons_put decision.changes) p
+
+-- The patron's page may be another one after the command.
+abbrev pub IsTouched : History → Command → ℕ → Type 0
+IsTouched H command p = IsReaderFor H command p ⊎ PutsOwnRow H command p

@@ -1,15 +1,16 @@
 //! One request: who sends it, whether its key was used, and the result of its command.
 
-ghost use Rattle.std.specs.Prelude.{◌≡◌, true, false, Ok, bytes_eq};
+ghost use Rattle.std.specs.Prelude.{◌≡◌, [], true, false, Ok, bytes_eq};
 ghost use Rattle.terms.specs.Callers.{owner_of};
 ghost use Rattle.terms.specs.Forms.{IsKey};
 ghost use Rattle.terms.specs.Laws.{IsCommand, IsKept};
+ghost use Rattle.terms.specs.Limits.{IsOwner};
 ghost use Rattle.terms.specs.Texts.{request_text as request_text_of, reply_text as reply_text_of};
 ghost use Rattle.terms.specs.declared.reply.Reply.{Reply as ReplyOf};
 ghost use Rattle.store.specs.Commit.{command_made};
 ghost use Rattle.model.specs.Requests.{may_send as may_send_command, only_asks};
 ghost use Rattle.desk.specs.Answering.{Handled, repeated, Records, AnswersCommand, AnswersByKey};
-ghost use Rattle.desk.specs.Answering.{HandlesAny, IsViewFor, TouchesOnly};
+ghost use Rattle.desk.specs.Answering.{HandlesAny, IsViewFor, NamesIf, NamesTouched, TouchesOnly};
 
 use crate::asking::reply_to_question;
 use crate::callers::{is_known, may_send, refusal_for_another};
@@ -21,8 +22,8 @@ use sqlite::Alter;
 use std::alloc::Global;
 use store::{KeptReply, Store};
 use terms::{
-    Command, Fault, KeptPut, Key, Owner, PatronId, Refusal, Reply, Request, Text,
-    command_has_forms, read_reply, reply_text, request_text,
+    Command, Fault, KeptPut, Key, Owner, Refusal, Reply, Request, Text, command_has_forms,
+    read_reply, reply_text, request_text,
 };
 
 /// Commits the changes, and keeps the request with its reply.
@@ -57,12 +58,15 @@ fn carry_out<'a, S: Alter>(
     key: &Key,
     text: &Text,
     command: &'a Command,
-    readers: Vec<PatronId>,
+    readers: Touched,
     touched: &mut Touched,
 ) -> Result<Reply, Fault>
-    requires { (only_asks command.now ≡ false) × (text.now ≡ request_text_of command.now) }
+    requires command { (only_asks command.now ≡ false) × (text.now ≡ request_text_of command.now) }
+    requires blank { touched.old ≡ [] }
     ensures answered { AnswersCommand owner key.now command.now
-        (IsViewFor owner command.now view.now readers.items) touched.new
+        (IsViewFor owner command.now view.now readers) touched.new
+        S.Store store.old store.new result }
+    ensures named { NamesIf (IsViewFor owner command.now view.now readers) command.now touched.new
         S.Store store.old store.new result }
     ensures any { HandlesAny S.Store store.old store.new result }
 {
@@ -88,9 +92,12 @@ fn answer<S: Alter>(
     command: &Command,
     touched: &mut Touched,
 ) -> Result<Reply, Fault>
-    requires { (only_asks command.now ≡ false) × (text.now ≡ request_text_of command.now) }
+    requires command { (only_asks command.now ≡ false) × (text.now ≡ request_text_of command.now) }
+    requires blank { touched.old ≡ [] }
     ensures answered { AnswersCommand owner key.now command.now
         (λ _. may_send_command owner command.now ≡ true) touched.new
+        S.Store store.old store.new result }
+    ensures named { NamesIf (λ _. may_send_command owner command.now ≡ true) command.now touched.new
         S.Store store.old store.new result }
     ensures any { HandlesAny S.Store store.old store.new result }
 {
@@ -127,8 +134,12 @@ fn respond<S: Alter>(
     request: &Request,
     touched: &mut Touched,
 ) -> Result<Reply, Fault>
-    requires { only_asks request.now.command ≡ false }
+    requires command { only_asks request.now.command ≡ false }
+    requires blank { touched.old ≡ [] }
     ensures answered { AnswersByKey request.now touched.new S.Store store.old store.new result }
+    ensures named { NamesIf (λ _. IsOwner (owner_of request.now.caller)
+        × (may_send_command (owner_of request.now.caller) request.now.command ≡ true))
+        request.now.command touched.new S.Store store.old store.new result }
     ensures any { HandlesAny S.Store store.old store.new result }
 {
     let text = request_text(alloc, &request.command)?;
@@ -163,9 +174,12 @@ pub(crate) fn handle_touching<S: Alter>(
     request: &Request,
     touched: &mut Touched,
 ) -> Result<Reply, Fault>
+    requires blank { touched.old ≡ [] }
     ensures formed { IsCommand request.now.command × IsKey request.now.key }
     ensures handled { Handled request.now S.Store store.old store.new result }
     ensures touches { TouchesOnly request.now touched.new S.Store store.old store.new result }
+    ensures named { NamesTouched request.now.command touched.new
+        S.Store store.old store.new result }
 {
     has_forms(request);
     if !is_known(store, alloc, &request.caller)?

@@ -1,25 +1,22 @@
 //! The patrons whose pages show a title.
 
-ghost use Rattle.std.specs.Prelude.{◌≡◌, List, ℕ, ◌++◌, IfOk, map};
+ghost use Rattle.std.specs.Prelude.{◌≡◌, [], ◌++◌, IfOk, map};
 ghost use Rattle.desk.specs.Answering.{Learns};
-ghost use Rattle.desk.specs.Touching.{Adds, IsListed, HasBorrower, HaveBorrowers};
-ghost use Rattle.desk.specs.Touching.{AreReaders, AreReadersFor};
+ghost use Rattle.desk.specs.Touching.{Adds, AreExactly, HasLoanOf, HasLoanAmong};
+ghost use Rattle.desk.specs.Touching.{IsReader, IsReaderFor, borrower_of};
 
+use crate::touching::Touched;
 use sqlite::Alter;
 use std::alloc::Global;
 use store::Store;
-use terms::{Command, CopyRow, Fault, HoldRow, LoanRow, Memory, PatronId, TitleId};
+use terms::{Command, CopyId, CopyRow, Fault, HoldRow, LoanRow, Memory, TitleId};
 
 /// Adds the patron of a loan, if there is one.
-fn add_patron(loan: &Option<LoanRow>, readers: &mut Vec<PatronId>) -> Result<(), Memory>
-    ensures listed { IfOk result (λ _. IsListed loan.now readers.new.items) }
-    ensures added { IfOk result (λ _. Adds readers.old.items readers.new.items) }
+fn add_patron(loan: &Option<LoanRow>, readers: &mut Touched) -> Result<(), Memory>
+    ensures { IfOk result (λ _. readers.new ≡ readers.old ++ borrower_of loan.now) }
 {
     match loan {
-        Some(row) => {
-            readers.push(row.patron)?;
-            Ok(())
-        }
+        Some(row) => readers.push(row.patron),
         None => Ok(()),
     }
 }
@@ -27,15 +24,14 @@ fn add_patron(loan: &Option<LoanRow>, readers: &mut Vec<PatronId>) -> Result<(),
 /// Adds the patron to whom a copy is lent, if it is. Faults 90, 91, 93.
 fn add_borrower<S: Alter>(
     store: &mut Store<S>,
-    copy: &CopyRow,
-    readers: &mut Vec<PatronId>,
+    copy: CopyId,
+    readers: &mut Touched,
 ) -> Result<(), Fault>
-    ensures learnt { Learns (λ H _. HasBorrower H readers.new.items copy.now)
+    ensures { Learns (λ H _. Adds (HasLoanOf H copy) readers.old readers.new)
         S.Store store.old store.new result }
-    ensures added { IfOk result (λ _. Adds readers.old.items readers.new.items) }
 {
-    let rows = store.copy_and_claims(copy.copy)?;
-    add_patron(&rows.loan, readers)?;
+    let loan = store.open_loan(copy)?;
+    add_patron(&loan, readers)?;
     Ok(())
 }
 
@@ -43,21 +39,20 @@ fn add_borrower<S: Alter>(
 fn add_borrowers<S: Alter>(
     store: &mut Store<S>,
     copies: &[CopyRow],
-    readers: &mut Vec<PatronId>,
+    readers: &mut Touched,
 ) -> Result<(), Fault>
-    ensures { Learns (λ H _. HaveBorrowers H readers.new.items copies.now)
+    ensures { Learns (λ H _. Adds (HasLoanAmong H copies.now) readers.old readers.new)
         S.Store store.old store.new result }
 {
     'copies: for copy in copies {
-        add_borrower(store, copy, readers)?;
+        add_borrower(store, copy.copy, readers)?;
     }
     Ok(())
 }
 
 /// Adds the patrons of these holds.
-fn add_holders(holds: &[HoldRow], readers: &mut Vec<PatronId>) -> Result<(), Memory>
-    ensures { IfOk result (λ _. readers.new.items
-        ≡ readers.old.items ++ map (λ r. r.patron) holds.now) }
+fn add_holders(holds: &[HoldRow], readers: &mut Touched) -> Result<(), Memory>
+    ensures { IfOk result (λ _. readers.new ≡ readers.old ++ map (λ r. r.patron) holds.now) }
 {
     'holds: for hold in holds {
         readers.push(hold.patron)?;
@@ -66,16 +61,16 @@ fn add_holders(holds: &[HoldRow], readers: &mut Vec<PatronId>) -> Result<(), Mem
 }
 
 /// Returns the patrons with an open loan of a copy of the title, and those with an active hold on
-/// it. Faults 90, 91, 93.
+/// it, and nobody else. Faults 90, 91, 93.
 fn title_readers<S: Alter>(
     store: &mut Store<S>,
     alloc: Global,
     title: TitleId,
-) -> Result<Vec<PatronId>, Fault>
-    ensures { Learns (λ H readers. AreReaders H title readers.items)
+) -> Result<Touched, Fault>
+    ensures { Learns (λ H readers. AreExactly (IsReader H title) readers)
         S.Store store.old store.new result }
 {
-    let mut readers = Vec::new(alloc);
+    let mut readers = Touched::none(alloc);
     let copies = store.title_copies(alloc, title)?;
     add_borrowers(store, &copies, &mut readers)?;
     let holds = store.title_holds(alloc, title)?;
@@ -89,12 +84,12 @@ pub(crate) fn readers_of<S: Alter>(
     store: &mut Store<S>,
     alloc: Global,
     command: &Command,
-) -> Result<Vec<PatronId>, Fault>
-    ensures { Learns (λ H readers. AreReadersFor H command.now readers.items)
+) -> Result<Touched, Fault>
+    ensures { Learns (λ H readers. AreExactly (IsReaderFor H command.now) readers)
         S.Store store.old store.new result }
 {
     match command {
         Command::AmendTitle { title, .. } => title_readers(store, alloc, *title),
-        _ => Ok(Vec::new(alloc)),
+        _ => Ok(Touched::none(alloc)),
     }
 }

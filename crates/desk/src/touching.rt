@@ -1,26 +1,30 @@
 //! The patrons whose pages a command may change.
 
-ghost use Rattle.std.specs.Prelude.{◌≡◌, [], ◌∷◌, ◌++◌, IfOk};
+ghost use Rattle.std.specs.Prelude.{◌≡◌, [], ◌∷◌, ◌++◌, ◌<◌, length, IfOk, IsOk};
 ghost use Rattle.desk.specs.Touching.{patron_put as patron_put_of, patrons_put};
 
 use circ_core::{Changes, RowChange};
+use smallvec::SmallVec;
 use std::alloc::Global;
 use std::marker::Model;
 use terms::{Memory, PatronId};
 
 /// The patrons whose pages a handled request may have changed: by the patron's row, loans and
-/// holds, or by the title of one of these. A patron can occur more than once.
+/// holds, or by the title of one of these. A patron can occur more than once. Six take no memory:
+/// as many as there are changes of one command.
 #[derive(Drop)]
 pub struct Touched {
-    patrons: Vec<PatronId>,
+    patrons: SmallVec<PatronId, 6>,
 }
 
 impl Model for Touched {
-    ghost use Rattle.std.specs.Prelude.{List, ℕ};
+    ghost use Rattle.std.specs.Prelude.{List, ℕ, ◌≤◌};
 
     ghost Value = { List ℕ };
 
     ghost view = { λ t. t.patrons.items };
+
+    ghost invariant = { λ t. 6 ≤ t.patrons.capacity };
 }
 
 impl Touched {
@@ -29,7 +33,7 @@ impl Touched {
         ensures { result ≡ [] }
     {
         Touched {
-            patrons: Vec::new(alloc),
+            patrons: SmallVec::new(alloc),
         }
     }
 
@@ -40,9 +44,10 @@ impl Touched {
         self.patrons.as_slice()
     }
 
-    /// Adds a patron.
-    fn push(&mut self, patron: PatronId) -> Result<(), Memory>
-        ensures { IfOk result (λ _. self.new ≡ self.old ++ patron ∷ []) }
+    /// Adds a patron. The first six need no memory.
+    pub(crate) fn push(&mut self, patron: PatronId) -> Result<(), Memory>
+        ensures added { IfOk result (λ _. self.new ≡ self.old ++ patron ∷ []) }
+        ensures room { length self.old < 6 → IsOk result }
     {
         self.patrons.push(patron)?;
         Ok(())
@@ -61,11 +66,13 @@ fn patron_put(change: &RowChange<'_>) -> Option<PatronId>
     }
 }
 
-/// Returns these readers, and the patrons whose own rows the changes put.
-pub(crate) fn touched_by(changes: &Changes<'_>, readers: Vec<PatronId>) -> Result<Touched, Memory>
-    ensures { IfOk result (λ touched. touched ≡ readers.items ++ patrons_put changes.now) }
+/// Returns these readers, and the patrons whose own rows the changes put. Needs no memory where
+/// there are no readers.
+pub(crate) fn touched_by(changes: &Changes<'_>, readers: Touched) -> Result<Touched, Memory>
+    ensures touched { IfOk result (λ touched. touched ≡ readers ++ patrons_put changes.now) }
+    ensures room { readers ≡ [] → IsOk result }
 {
-    let mut touched = Touched { patrons: readers };
+    let mut touched = readers;
     'places: for place in 0..Changes::PLACES {
         match changes.get(place) {
             Some(change) => {

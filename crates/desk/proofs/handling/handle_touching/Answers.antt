@@ -1,4 +1,4 @@
-use Rattle.std.proofs.Common.{rules, ◌≡◌, [], ◌∷◌, true, false, sym, ◌∙◌, ap, subst}
+use Rattle.std.proofs.Common.{rules, ◌≡◌, ℕ, List, [], ◌∷◌, true, false, sym, ◌∙◌, ap, subst}
 use Rattle.store.specs.Library.{state}
 use Rattle.store.specs.Stops.{KeepsPicture}
 use Rattle.terms.specs.Callers.{owner_of}
@@ -9,14 +9,19 @@ use Rattle.model.proofs.Runs.{after_one-legal, after-forms}
 use Rattle.desk.specs.Answering.{LeavesOneOf, Shows, after_key}
 use Rattle.model.specs.Answers.{answer}
 use Rattle.desk.proofs.Handled.{allowed-both, not-page, reply-key, after-key, reply-page, after-page}
-use Rattle.desk.proofs.Looking.{if-ok-is, if-ok-given, on-err, on-ok-is, leaves-first}
+use Rattle.desk.proofs.Looking.{if-ok-is, if-ok-given, on-err, on-ok, on-ok-any, on-ok-is, leaves-first}
 use Rattle.desk.proofs.Unchanged.{any-nothing, any-after, any-undone, nothing-then}
 use Rattle.desk.proofs.Owning.{known-owner}
 use Rattle.desk.proofs.Untouched.{others-as, others-same}
+use Rattle.desk.specs.Touching.{IsAmong}
+use Rattle.desk.proofs.TitleReaders.{among-none}
 use Rattle.desk.proofs.handling.handle_touching.Goals as goal
 
 pub respond-requires : goal.respond-requires
-respond-requires g c = not-page c.args.request.now.command c.in_default.not-Page c.in_default-command.not-Ask
+respond-requires g c = record {
+  command = not-page c.args.request.now.command c.in_default.not-Page c.in_default-command.not-Ask;
+  blank = c.requires.blank;
+}
 
 pub returns-clause-handled : goal.returns-clause-handled
 returns-clause-handled g c = record {
@@ -75,6 +80,25 @@ returns-clause-touches g c = λ disk. if-ok-is _ c.respond.result (λ reply is H
     let done = if-ok-given _ c.respond.result (c.respond.ensures.answered.replied disk) reply is
     (known-owner H shows.legal shows.forms r.caller known) H mid may in
     others-as c.respond.new.touched H (after_one H r) (after_key H r) (after-key H r allowed page) done.2)
+
+pub returns-clause-named : goal.returns-clause-named
+returns-clause-named g c = λ disk. on-ok c.respond.result
+    (λ named H shows unit p among.
+    let r = c.args.request.now in
+    let first = c.respond.ensures.answered.clean disk in
+    let known : is_known H r.caller ≡ true = sym (c.in_ok-is_known.ensures.shown first H shows tt) ∙ c.if-not-branch.false in
+    let may : may_send (owner_of r.caller) r.command ≡ true = rw c.owner.ensures at (sym c.may_send.ensures ∙ c.if-not-may_send.false) in
+    let mid = c.in_ok-is_known.ensures.looks.stays first H shows in
+    named H mid (known-owner H shows.legal shows.forms r.caller known, may) p among)
+    (c.respond.ensures.named disk)
+
+pub returns-in-Page-clause-named : goal.returns-in-Page-clause-named
+returns-in-Page-clause-named g c = λ disk. on-ok-any c.show.result
+    (λ H shows unit p among. among-none p (subst (λ (ps : List ℕ). IsAmong ps p) c.requires.blank among))
+
+pub returns-in-Ask-clause-named : goal.returns-in-Ask-clause-named
+returns-in-Ask-clause-named g c = λ disk. on-ok-any c.reply_to_question.result
+    (λ H shows unit p among. among-none p (subst (λ (ps : List ℕ). IsAmong ps p) c.requires.blank among))
 
 pub returns-in-Page-clause-handled : goal.returns-in-Page-clause-handled
 returns-in-Page-clause-handled g c = record {

@@ -8,6 +8,7 @@ pub returns : goal.returns
 returns g c =
     let is = rw c.self.view_is at c.in_ok-reply.ensures.handled in
     let touches = rw c.self.view_is at c.in_ok-reply.ensures.touches in
+    let named = rw c.self.view_is at c.in_ok-reply.ensures.named in
     record {
       handles = record {
         handled = is;
@@ -17,4 +18,5 @@ returns g c =
             shows-headline _ K done.1;
       };
       kept = λ disk H shows p out. page-kept H c.args.request.now c.handle_touching.new.touched shows.legal (touches disk H shows) p out;
+      named = λ disk H shows p among. named disk H shows tt p among;
     }
