@@ -1,8 +1,11 @@
 -- Pages shown by the board are the desk's replies.
-use Rattle.std.proofs.Common.{◌≡◌, ℕ, true, false, not, cond, List, [], ◌∷◌, ◌++◌, append_assoc, refl, sym, ◌∙◌, ap, subst}
+use Rattle.std.proofs.Common.{◌≡◌, ℕ, Bool, true, false, not, cond, List, [], ◌∷◌, ◌++◌, append_assoc, refl, sym, ◌∙◌, ap, subst}
 use Rattle.std.specs.Prelude.{Option, Some, None, option_map, unwrap_or, is_some, bytes_eq, Result, Ok, Err, IfOk, IfErr}
+use Rattle.std.proofs.lemmas.Bool.{eq-eqb}
 use Rattle.terms.specs.declared.command.Caller.{Caller}
 use Rattle.terms.specs.declared.command.Caller.TheVariants.{Desk}
+use Rattle.terms.specs.declared.command.Caller.TheVariants.{Patron as FromPatron}
+use Rattle.terms.specs.declared.command.Owner.TheVariants.{Patron}
 use Rattle.terms.specs.declared.command.Command.{Command}
 use Rattle.terms.specs.declared.command.Command.TheVariants.{Page}
 use Rattle.terms.specs.declared.command.Request.{Request}
@@ -13,10 +16,13 @@ use Rattle.terms.specs.declared.reply.Reply.TheVariants.{Shown, Refused}
 use Rattle.model.specs.Checks.{first_failing}
 use Rattle.model.specs.History.{History, PatronFacts, patron_of}
 use Rattle.model.specs.Pages.{page}
-use Rattle.model.specs.Requests.{after, reply_to}
+use Rattle.model.specs.Answers.{answer as answer_to}
+use Rattle.model.specs.Requests.{after, is_known, reply_to}
+use Rattle.model.proofs.Corrections.{old-key-void}
 use Rattle.desk.specs.Answering.{page_for}
 use Rattle.desk.specs.Showing.{own_page}
 use Rattle.desk.specs.declared.showing.OwnPage.{OwnPage}
+use Rattle.desk.proofs.Handled.{allowed-both, reply-page}
 use Rattle.desk.proofs.PageFor.{page_for-same}
 use Rattle.web.specs.declared.answer.Answer.{Answer}
 use Rattle.web.specs.declared.answer.Answer.TheVariants as answer
@@ -28,7 +34,7 @@ use Rattle.board.specs.Showing.{StartsWith, GoesOn, IsTold, requests}
 use Rattle.board.proofs.Beginnings.{goes_self, starts_self}
 use Rattle.board.proofs.Telling.{told-reply}
 use Rattle.hall.specs.declared.closing.Closing.{Closing}
-use Rattle.hall.specs.Serving.{Working, shown_page, page_by_desk, page_asked, IsOwnPage, IsPageSeen, IsReplied, IsReplyFor, IsReplyTo}
+use Rattle.hall.specs.Serving.{Working, shown_page, page_by_desk, page_asked, IsOwnPage, IsVoid, IsPageSeen, IsReplied, IsReplyFor, IsReplyTo}
 use Rattle.hall.specs.Serving.{IsGivenReply, IsGivenFor, IsGivenTo, IsOwnFault, IsUnsubmitted, IsFaultFor, IsFaultTo}
 use Rattle.hall.specs.Serving.{SubmitsFor, TellsPage, MeetsAsked}
 
@@ -49,11 +55,26 @@ by-card-key card_key (Some r) text =
 pub page-shown : (H : History) (patron : ℕ) (card_key : List ℕ) → shown_page (own_page H patron) (Some card_key) ≡ page_for H patron card_key
 page-shown H patron card_key = by-card-key card_key (patron_of H patron) (page H patron)
 
+-- the card key that the patron had before the last card-key
+void-page : (H : History) (patron : ℕ) (card_key : List ℕ) → IsVoid patron card_key H → page_for H patron card_key ≡ Refused NotAllowed
+void-page H patron card_key v = go (is_known H (FromPatron patron card_key)) refl
+  where
+    asks : Request
+    asks = record { caller = FromPatron patron card_key; key = []; command = Page patron }
+    by : Bool → Reply
+    by known = elim known [ true ↦ answer_to H (Patron patron) (Page patron) | false ↦ Refused NotAllowed ]
+    refused : reply_to H asks ≡ Refused NotAllowed
+    refused = subst (λ (K : History). reply_to K asks ≡ Refused NotAllowed) (sym v.list_is)
+        (old-key-void v.set v.before v.later patron v.new_key card_key [] (Page patron) v.accepted v.sets v.last v.differs)
+    go : (known : Bool) → is_known H (FromPatron patron card_key) ≡ known → page_for H patron card_key ≡ Refused NotAllowed
+    go false e = ap by e
+    go true e = ap by e ∙ sym (reply-page H asks (allowed-both H (FromPatron patron card_key) (Page patron) e (eq-eqb patron patron refl)) refl) ∙ refused
+
 pub own-page : (H : History) (patron : ℕ) (card_key : List ℕ) (reply : Reply) → reply ≡ shown_page (own_page H patron) (Some card_key)
     → IsOwnPage patron card_key H reply
 own-page H patron card_key reply is =
     let same : reply ≡ page_for H patron card_key = is ∙ page-shown H patron card_key in
-    record { page = same; own = λ K agrees. same ∙ page_for-same patron card_key H K agrees }
+    record { page = same; own = λ K agrees. same ∙ page_for-same patron card_key H K agrees; void = λ v. same ∙ void-page H patron card_key v }
 
 by-desk : (row : Option PatronFacts) (text : List ℕ) → shown_page (board_page row text) None ≡ asked_page row text
 by-desk None text = refl

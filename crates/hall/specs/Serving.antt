@@ -1,5 +1,5 @@
 -- What a worker knows, submits and answers.
-use Rattle.std.specs.Prelude.{◌≡◌, ◌⊎◌, ℕ, ◌+◌, ◌<◌, if◌then◌else◌, bytes_eq, List, length, map, Option, Some, None, Result, Ok, Err, IfOk}
+use Rattle.std.specs.Prelude.{◌≡◌, ◌⊎◌, ℕ, ◌+◌, ◌<◌, if◌then◌else◌, bytes_eq, false, List, ◌∷◌, ◌++◌, length, map, Option, Some, None, Result, Ok, Err, IfOk}
 use Rattle.std.specs.Prelude.{IfErr, IfSome, OnOk, OnErr}
 use Rattle.std.specs.Io.KnownBytes.{Appends, Keeps}
 use Rattle.store.specs.Library.{Ghosts, Held, IsClean}
@@ -7,7 +7,7 @@ use Rattle.terms.specs.Writing.{AppendsFront}
 use Rattle.terms.specs.declared.command.Caller.{Caller}
 use Rattle.terms.specs.declared.command.Caller.TheVariants.{Desk}
 use Rattle.terms.specs.declared.command.Command.{Command}
-use Rattle.terms.specs.declared.command.Command.TheVariants.{Page as AsksPage}
+use Rattle.terms.specs.declared.command.Command.TheVariants.{Page as AsksPage, SetCardKey}
 use Rattle.terms.specs.declared.command.Request.{Request as Requested}
 use Rattle.terms.specs.declared.fault.Fault.TheVariants.{Memory}
 use Rattle.terms.specs.declared.fault.ServiceFault.{ServiceFault}
@@ -15,8 +15,9 @@ use Rattle.terms.specs.declared.fault.ServiceFault.TheVariants.{Met, Closed}
 use Rattle.terms.specs.declared.refusal.Refusal.TheVariants.{NotAllowed, UnknownPatron}
 use Rattle.terms.specs.declared.reply.Reply.{Reply}
 use Rattle.terms.specs.declared.reply.Reply.TheVariants.{Refused}
-use Rattle.model.specs.History.{History}
-use Rattle.model.specs.Requests.{after, reply_to}
+use Rattle.model.specs.Corrections.{KeepsCardKey}
+use Rattle.model.specs.History.{Event, History}
+use Rattle.model.specs.Requests.{IsLegal, after, reply_to}
 use Rattle.desk.specs.Answering.{IsPageFor, IsOwnPageFor}
 use Rattle.desk.specs.declared.showing.OwnPage.{OwnPage}
 use Rattle.web.specs.Answers.{answer_bytes, answer_for}
@@ -236,11 +237,24 @@ pub record Serves {E : Type 0} (desk_key : List ℕ) (bytes : Option (List ℕ))
 
 -- ---- what a list of accepted requests gives
 
+-- An accepted card-key set another card key than this for the patron, and the patron has had none since.
+pub record IsVoid (patron : ℕ) (card_key : List ℕ) (H : History) : Type 0 where
+  pub later : History
+  pub set : Event
+  pub before : History
+  pub new_key : List ℕ
+  pub list_is : H ≡ later ++ set ∷ before
+  pub accepted : IsLegal (set ∷ before)
+  pub sets : set.command ≡ SetCardKey patron new_key
+  pub last : KeepsCardKey patron later
+  pub differs : bytes_eq new_key card_key ≡ false
+
 -- The reply is the page that the card key opens after this list of accepted requests, or that this isn't
--- allowed; it is the same after every list that agrees on the patron's own rows.
+-- allowed; it is the same after every list that agrees on the patron's own rows. A void card key opens nothing.
 pub record IsOwnPage (patron : ℕ) (card_key : List ℕ) (H : History) (reply : Reply) : Type 0 where
   pub page : IsPageFor patron card_key H reply
   pub own : IsOwnPageFor patron card_key H reply
+  pub void : IsVoid patron card_key H → reply ≡ Refused NotAllowed
 
 -- A reply by the list H of accepted requests, once the worker has seen a beginning of the handled list: to a
 -- submission, the list's reply at its place there; to a page, the page after H and that beginning.
