@@ -7,7 +7,7 @@ import { saidNo } from "./saying.js";
 import { cut, nameOf } from "./scans.js";
 import { focusScan } from "./scan_line.js";
 import { it, print } from "./screen.js";
-import { tableOf, wordsOfQuestion } from "./tables.js";
+import { isSearch, tableOf, wordsOfQuestion } from "./tables.js";
 import { TEXTS, branchName, say } from "./texts.js";
 
 // what is shown, and how many lists were asked for: the answer to one that was asked for before the last comes too late
@@ -37,10 +37,15 @@ function show({ question, list, branch }) {
   it("list-rows").replaceChildren(...rows.map((cells) => rowOf(cells, "td")));
   it("more").hidden = list.after === null;
   it("list-paper").hidden = false;
-  tell(rows.length === 0 ? TEXTS.noRows : "");
+  tell(rows.length > 0 ? "" : list.after === null ? TEXTS.noRows : TEXTS.noneYet);
 }
 
-function read(question, text) {
+// What was answered, as a list; that of a search has the text that it looked for as its head.
+function read(question, about, text) {
+  if (isSearch(question)) {
+    const list = readList(question, text);
+    return list && { ...list, head: { sought: about } };
+  }
   if (question !== "copy") return readList(question, text);
   const copy = readCopy(text);
   return copy && { head: { copy: copy.copy }, rows: [copy], after: null };
@@ -53,7 +58,7 @@ async function ask(desk, question, about, after, before) {
   tell(TEXTS.sending);
   const answer = await desk.ask(wordsOfQuestion(question, about, after), () => mine === asked && tell(TEXTS.unknownOpening, true));
   if (!answer || mine !== asked) return;
-  const list = answer.reply && read(question, answer.text);
+  const list = answer.reply && read(question, about, answer.text);
   if (!list) return tell(saidNo(answer.reply ? { strange: 200 } : answer), true);
   shown = { question, about, branch: desk.branch, list: { ...list, rows: [...before, ...list.rows] } };
   show(shown);
@@ -67,6 +72,13 @@ function lookUp(desk, question) {
   if (of !== null && of !== kind) return tell(say(TEXTS.otherScanned, { is: nameOf(of), wanted: nameOf(kind) }), true);
   if (!isNumber(number)) return tell(say(TEXTS.wrongForm, { what: TEXTS.numberForm }), true);
   return ask(desk, question, number, 0, []);
+}
+
+// What is found is a text of patrons' names, or of titles.
+function find(desk, question) {
+  const text = it("sought").value.trim();
+  if (text === "") return tell(say(TEXTS.wrongForm, { what: TEXTS.soughtForm }), true);
+  return ask(desk, question, text, 0, []);
 }
 
 function listenToButtons(desk) {
@@ -97,6 +109,11 @@ export function listenForLists(desk) {
   it("looking").addEventListener("submit", (event) => {
     event.preventDefault();
     lookUp(desk(), event.submitter?.value ?? "copy");
+    focusScan();
+  });
+  it("finding").addEventListener("submit", (event) => {
+    event.preventDefault();
+    find(desk(), event.submitter?.value ?? "find-patrons");
     focusScan();
   });
 }

@@ -63,6 +63,8 @@ const LISTS = {
     ],
   },
   debts: { head: null, rows: DEBTOR },
+  "find-patrons": { head: null, rows: DEBTOR },
+  "find-titles": { head: null, rows: TITLE },
   overdue: {
     head: columns("loan", "patron", "copy", "due", "late"),
     rows: [[`${BLANKS}${NUMBER} +${NUMBER} +${NUMBER} ${DAY} +${NUMBER} ${TEXT}`,

@@ -12,7 +12,7 @@ export function receiptHead({ name, day, branch }) {
 
 // The patron whom words are for, as they say; a renewal names none.
 export function patronOf(words) {
-  return ["check-out", "pay", "waive", "place-hold", "place-hold-from"].includes(words[0]) ? Number(words[1]) : null;
+  return ["check-out", "pay", "waive", "place-hold", "place-hold-from", "card-key", "amend-patron"].includes(words[0]) ? Number(words[1]) : null;
 }
 
 function heldRow(hold, page) {

@@ -20,6 +20,9 @@ const REPLIES = [
   [`fine ${NUMBER} price ${NUMBER}`, ([fine, price]) => ({ kind: "lost", fine: Number(fine), price: Number(price) })],
   [`fine ${NUMBER} ${TEXT}`, ([fine, place]) => ({ kind: "checked in", fine: Number(fine), place: readPlace(place) })],
   [`owed ${NUMBER}`, ([owed]) => ({ kind: "owed", owed: Number(owed) })],
+  [`today ${DAY}`, ([day]) => ({ kind: "day", day })],
+  [`patron ${NUMBER} owed ${NUMBER} name ${TEXT}\\nkind ${NUMBER}`,
+    ([patron, owed, name, patronKind]) => ({ kind: "borrower", patron: Number(patron), owed: Number(owed), name, patronKind: Number(patronKind) })],
 ];
 
 const LINES = [
@@ -33,8 +36,8 @@ const LINES = [
     ([hold, branch, title, text]) => ({ line: "hold", hold: Number(hold), branch: Number(branch), state: "ready", from: null, title: Number(title), text })],
 ];
 
-// What a question of the desk is answered: a copy, a list to its end or to the number of its last row, or the sums of a day.
-const SHOWN = [`copy ${NUMBER} home [^\\n]+\\n[^\\n]+`, "(?:[^]+\\n)?end", `[^]+\\nafter ${NUMBER}`, `till ${DAY}\\n[^]+`].map((form) => [form, () => true]);
+// What a question of the desk is answered: a copy, a list to its end or to the number from which it goes on, which a search may show without a row, or the sums of a day.
+const SHOWN = [`copy ${NUMBER} home [^\\n]+\\n[^\\n]+`, "(?:[^]+\\n)?end", `(?:[^]+\\n)?after ${NUMBER}`, `till ${DAY}\\n[^]+`].map((form) => [form, () => true]);
 
 // A patron's page, or null where the text is none.
 export function readPage(text) {

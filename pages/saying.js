@@ -1,5 +1,6 @@
 // What is said to the clerk: of replies, of refusals, and of what waits.
 
+import { COMMANDS } from "./commands.js";
 import { today } from "./days.js";
 import { patronOf } from "./receipt.js";
 import { MEANINGS, TEXTS, amount, branchName, say } from "./texts.js";
@@ -33,6 +34,8 @@ export function said(reply, name) {
       return `${placeOf(reply.place, name)} ${reply.fine === 0 ? TEXTS.noFine : say(TEXTS.fine, { fine: amount(reply.fine) })}`;
     case "page":
       return say(TEXTS.pageOf, { patron: reply.patron, name: reply.name, loans: reply.loans.length, holds: reply.holds.length, owed: amount(reply.owed) });
+    case "day": return say(TEXTS.todayIs, reply);
+    case "borrower": return say(TEXTS.borrowerIs, { ...reply, owed: amount(reply.owed) });
     case "shown": return reply.lines[0];
     default: return TEXTS.done;
   }
@@ -42,15 +45,21 @@ export function said(reply, name) {
 function about(words, reply, { page, copy }) {
   const mine = page?.loans.find(({ loan }) => loan === reply.loan) ?? page?.holds.find(({ hold }) => hold === reply.hold);
   if (reply.kind === "checked in") return { text: copy?.text, name: reply.place.hold && copy?.place.hold === reply.place.hold ? copy.place.name : undefined };
-  if (copy) return { text: copy.text, name: copy.place.name };
+  if (copy) return { text: copy.text, name: words[0] === "rehome" ? undefined : copy.place.name };
   return { text: mine?.text, name: mine || patronOf(words) === page?.patron ? page?.name : undefined };
+}
+
+// What a reply says; of a copy with a new home, which may have left its shelf, with the place where it is.
+function saidWithPlace(words, reply, name, copy) {
+  return words[0] === "rehome" && copy ? `${said(reply)} ${whereIs(copy.place)}` : said(reply, name);
 }
 
 // What accepted words did, with the title and for whom.
 export function saidFully(words, reply, more) {
   const { text, name } = about(words, reply, more);
   const isIn = reply.kind === "checked in";
-  const told = text ? say(TEXTS.ofTitle, { text, told: said(reply, name) }) : said(reply, name);
+  const done = saidWithPlace(words, reply, name, more.copy);
+  const told = text ? say(TEXTS.ofTitle, { text, told: done }) : done;
   return name && !isIn ? say(TEXTS.forName, { told, name }) : told;
 }
 
@@ -81,9 +90,10 @@ export function pageLines({ loans, holds }, untils) {
   ];
 }
 
-// Words without the card key that a new patron is enrolled with: it is neither shown nor kept.
+// Words without the card key that a patron gets by them: it is neither shown nor kept.
 export function withoutCardKey(words) {
-  return words[0] === "patron" ? words.map((word, at) => (at === 3 ? "" : word)) : words;
+  const key = COMMANDS[words[0]]?.indexOf("card-key") ?? -1;
+  return key === -1 ? words : words.map((word, at) => (at === key + 1 ? "" : word));
 }
 
 export function shownWords(words) {

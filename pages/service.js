@@ -93,11 +93,18 @@ export class Service {
 
   // The copy that was moved, or the page of the patron at the desk, after words that may have changed it.
   async look(words, told) {
-    const patron = this.visit?.page.patron;
-    if (["check-in", "missing", "withdraw"].includes(words[0])) return this.lookAtCopy(words[1], told);
-    if (patron === undefined || (words[0] !== "renew" && patronOf(words) !== patron)) return {};
-    const answer = await this.question(["page", patron], told);
+    if (["check-in", "missing", "withdraw", "amend-copy", "rehome"].includes(words[0])) return this.lookAtCopy(words[1], told);
+    if (!this.mayChangePage(words)) return {};
+    const answer = await this.question(["page", this.visit.page.patron], told);
     return answer?.reply?.kind === "page" ? { page: answer.reply } : { isMissing: answer !== null };
+  }
+
+  // Whether accepted words may have changed the page of the patron at the desk: it shows the titles of loans and holds.
+  mayChangePage(words) {
+    const page = this.visit?.page;
+    if (!page) return false;
+    if (words[0] === "amend-title") return [...page.loans, ...page.holds].some(({ title }) => title === Number(words[1]));
+    return words[0] === "renew" || patronOf(words) === page.patron;
   }
 
   async lookAtCopy(number, told) {
@@ -119,7 +126,7 @@ export class Service {
 
   addToReceipt(words, reply, page) {
     if (!this.visit) return;
-    if (page) this.visit.page = page;
+    if (page) Object.assign(this.visit, { page, receipt: { ...this.visit.receipt, name: page.name } });
     const row = receiptRow(this.visit.page.patron, words, reply, page);
     if (row) this.visit.receipt.rows.push(row);
     if (page || row) this.showVisit();

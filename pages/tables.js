@@ -23,6 +23,8 @@ const TABLES = {
   transits: { head: TEXTS.transits, columns: [copy, title, hold] },
   till: { head: TEXTS.tillOf, columns: [[TEXTS.colSum, sort], [TEXTS.colAmount, money("amount")]] },
   debts: { head: TEXTS.debts, columns: [patron, [TEXTS.colName, whole("name")], [TEXTS.colOwed, money("owed")]] },
+  "find-patrons": { head: TEXTS.foundPatrons, columns: [patron, [TEXTS.colName, whole("name")], [TEXTS.colOwed, money("owed")]] },
+  "find-titles": { head: TEXTS.foundTitles, columns: [[TEXTS.colTitleNumber, whole("title")], title] },
   account: {
     head: TEXTS.accountOf,
     columns: [[TEXTS.colLine, whole("line")], [TEXTS.colDay, whole("day")], [TEXTS.colSort, sort], [TEXTS.colAmount, money("amount")], title],
@@ -39,8 +41,14 @@ export function tableOf(question, { head, rows }) {
   return { head: say(text, told), columns: columns.map(([name]) => name), rows: rows.map((row) => columns.map(([, cell]) => cell(row))) };
 }
 
-// The words of a question about a branch, a number or a day, from a number on.
+// Whether a question looks for a text.
+export function isSearch(question) {
+  return question === "find-patrons" || question === "find-titles";
+}
+
+// The words of a question about a branch, a number, a day or a text, from a number on.
 export function wordsOfQuestion(question, about, after) {
+  if (isSearch(question)) return [question, after, about];
   if (question === "copy" || question === "till") return [question, about];
   return question === "debts" ? [question, after] : [question, about, after];
 }
