@@ -28,7 +28,7 @@ use Rattle.model.specs.Answers.{answer}
 use Rattle.model.specs.Picture.{picture}
 use Rattle.model.specs.Forms.{HasForms}
 use Rattle.model.specs.Laws.{AgreesOn}
-use Rattle.model.specs.Requests.{IsLegal, is_known, may_send, kept_of, event_of, reply_by_key, reply_to, after_one}
+use Rattle.model.specs.Requests.{IsLegal, is_known, may_send, only_asks, kept_of, event_of, reply_by_key, reply_to, after_one}
 use Rattle.desk.specs.Callers.{RefusesForeign}
 use Rattle.desk.specs.Touching.{KeepsOthers, AreExactly, IsAmong, IsReaderFor, IsTouched}
 
@@ -216,6 +216,8 @@ pub record Handled {S : Type 0} (request : Request)
   pub undone : Undoes g old new result
   -- what is promised for any tables, after a refusal too
   pub any : HandlesAny g old new result
+  -- what only asks changes nothing, whatever rows the tables have
+  pub asks : only_asks request.command ≡ true → ChangesNothing (state g old) (state g new) result
   -- a stop leaves what was there before or what is there after the request
   pub left : IsClean g new → (H : History) → Shows (state g old) H
       → LeavesOneOf (state g new) H (after_one H request)

@@ -56,6 +56,10 @@ returns-clause-handled g c = record {
       c.in_ok-is_known.ensures.looks.nothing c.respond.ensures.any);
   any = any-after g.S.Store c.args.store.now c.is_known.new.store c.respond.new.store _ c.respond.result c.respond.ensures.answered.clean
       c.in_ok-is_known.ensures.looks.nothing c.respond.ensures.any;
+  asks = λ only.
+      let page : only_asks c.args.request.now.command ≡ false =
+      not-page c.args.request.now.command c.in_default.not-Page c.in_default-command.not-Ask in
+      let never : ⊥ = cc in absurd never;
   left = λ disk H shows.
       let r = c.args.request.now in
       let first = c.respond.ensures.answered.clean disk in
@@ -125,6 +129,9 @@ returns-in-Page-clause-handled g c = record {
       (nothing-then (state g.S.Store c.args.store.now) (state g.S.Store c.is_known.new.store)
       (state g.S.Store c.show.new.store) _ c.show.result c.show.ensures.looks.clean
       c.in_ok-is_known.ensures.looks.nothing c.show.ensures.looks.nothing);
+  asks = λ only. nothing-then (state g.S.Store c.args.store.now) (state g.S.Store c.is_known.new.store)
+      (state g.S.Store c.show.new.store) _ c.show.result c.show.ensures.looks.clean
+      c.in_ok-is_known.ensures.looks.nothing c.show.ensures.looks.nothing;
   left = λ disk H shows.
       leaves-first (state g.S.Store c.show.new.store) (picture H) _
       (c.show.ensures.looks.left disk H (c.in_ok-is_known.ensures.looks.stays (c.show.ensures.looks.clean disk) H shows));
@@ -167,6 +174,9 @@ returns-in-Ask-clause-handled g c = record {
       (nothing-then (state g.S.Store c.args.store.now) (state g.S.Store c.is_known.new.store)
       (state g.S.Store c.reply_to_question.new.store) _ c.reply_to_question.result c.reply_to_question.ensures.looks.clean
       c.in_ok-is_known.ensures.looks.nothing c.reply_to_question.ensures.looks.nothing);
+  asks = λ only. nothing-then (state g.S.Store c.args.store.now) (state g.S.Store c.is_known.new.store)
+      (state g.S.Store c.reply_to_question.new.store) _ c.reply_to_question.result c.reply_to_question.ensures.looks.clean
+      c.in_ok-is_known.ensures.looks.nothing c.reply_to_question.ensures.looks.nothing;
   left = λ disk H shows.
       leaves-first (state g.S.Store c.reply_to_question.new.store) (picture H) _
       (c.reply_to_question.ensures.looks.left disk H (c.in_ok-is_known.ensures.looks.stays (c.reply_to_question.ensures.looks.clean disk) H shows));
