@@ -66,7 +66,7 @@ few_fields bytes headers count h fits same =
     let n = ap length same in
     omega (arith, n, length-map (take count headers) (header_bytes bytes), length-map h.fields name_and_value, length-take-le count headers fits)
 
-has_head : (bytes left all : List ℕ) (headers : List HeaderSpan) (spans : RequestSpans) (h : RequestHead) → all ≡ bytes ++ left
+pub has_head : (bytes left all : List ℕ) (headers : List HeaderSpan) (spans : RequestSpans) (h : RequestHead) → all ≡ bytes ++ left
     → IsRequestAt bytes headers spans h → IsRequestWithin bytes headers spans
     → length bytes ≤ HEAD_BYTES → length headers ≤ HEAD_FIELDS → HasHead all h (drop spans.len bytes ++ left)
 has_head bytes left all headers spans h whole is within long many = record {

@@ -6,6 +6,7 @@ pub mod KeyLemmas
 pub mod JsonLemmas
 pub mod BodyLemmas
 pub mod CheckLemmas
+pub mod Takings
 pub mod AnswerLemmas
 pub mod ReceivingLemmas
 pub mod ReadOnce

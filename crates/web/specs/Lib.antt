@@ -8,6 +8,7 @@ pub mod Asking
 pub mod Requests
 pub mod Checks
 pub mod Faults
+pub mod Taking
 pub mod Answers
 pub mod Sending
 pub mod Receiving

@@ -17,6 +17,7 @@ mod receiving;
 mod request;
 mod routes;
 mod sending;
+mod source;
 mod written;
 
 pub use answer::{Answer, write_answer};
@@ -27,4 +28,5 @@ pub use receiving::{AnswerFault, ReceivedAnswer, read_answer};
 pub use request::{WebRequest, read_request};
 pub use routes::Routes;
 pub use sending::{SendFault, write_send};
+pub use source::Source;
 pub use written::Json;

@@ -1,10 +1,12 @@
 //! Web requests, and the checks they pass, in order.
 
-ghost use Rattle.std.specs.Prelude.{◌≡◌, ◌++◌, IsUtf8, IfOk, IfSome, IfNone, MatchBool, length, take, drop, map};
+ghost use Rattle.std.specs.Prelude.{◌≡◌, ◌++◌, IsUtf8, IfOk, IfErr, IfSome, IfNone, MatchBool, length, take, drop, map};
 ghost use Rattle.std.specs.Prelude.{Ok, Err, Some, None, MatchOption, bytes_eq};
 ghost use Rattle.httparse.specs.Spans.{IsRequestWithin, span_bytes, header_bytes};
 ghost use Rattle.web.specs.Checks.{UnlessFaulted, ChecksTarget, ChecksLength, ChecksHead};
+ghost use Rattle.web.specs.Faults.{IsNotRead};
 ghost use Rattle.web.specs.Routes.{IsRoute, target_of};
+ghost use Rattle.web.specs.Taking.{Takes, EndsReading, WantsAfter, TakesRequest};
 ghost use Rattle.web.specs.declared.routes.Route.{Route as Said};
 ghost use Rattle.web.specs.declared.fault.WebFault.TheVariants.{Status};
 ghost use Rattle.web.specs.declared.fault.WebStatus.TheVariants.{BadRequest, MethodNotAllowed};
@@ -20,9 +22,9 @@ use crate::head::read_head;
 use crate::keys::{card_key, outside_key};
 use crate::limits::{HEAD_BYTES, HEAD_FIELDS};
 use crate::routes::{Route, Routes};
+use crate::source::Source;
 use httparse::spans::{EMPTY_HEADER_SPAN, HeaderSpan, RequestSpans};
 use std::alloc::Global;
-use std::io::Read;
 use std::str;
 use terms::{CardKey, Command, Key, Memory, PatronId};
 
@@ -105,10 +107,11 @@ fn check_repeats(fields: &Fields<'_>) -> Result<(), WebFault>
 
 /// Returns the request key, which every POST needs.
 fn key_for(alloc: Global, route: &Route, fields: &Fields<'_>) -> Result<Option<Key>, WebFault>
-    ensures { UnlessFaulted result (MatchBool (is_post route.now)
+    ensures key { UnlessFaulted result (MatchBool (is_post route.now)
         (MatchOption (request_key fields.now) (result ≡ Err (Status BadRequest))
         (λ key. result ≡ Ok (Some key)))
         (result ≡ Ok None)) }
+    ensures unread { IfErr result IsNotRead }
 {
     if !route.is_post() {
         return Ok(None);
@@ -141,8 +144,9 @@ fn check_parts(
     body: &[u8],
 ) -> Result<WebRequest, WebFault>
     requires { IsUtf8 target.now }
-    ensures { UnlessFaulted result
+    ensures checks { UnlessFaulted result
         (ChecksTarget method.now target.now fields.now body.now result) }
+    ensures unread { IfErr result IsNotRead }
 {
     let Some(route) = find_route(routes, target) else {
         return Err(WebFault::Status(WebStatus::NotFound));
@@ -163,7 +167,7 @@ fn check_parts(
 }
 
 /// Runs the checks after the head's, given its spans.
-fn check_head<R: Read>(
+fn check_head<R: Source>(
     alloc: Global,
     routes: &Routes,
     reader: &mut R,
@@ -173,10 +177,15 @@ fn check_head<R: Read>(
 ) -> Result<WebRequest, WebFault>
     requires within { IsRequestWithin bytes.now headers.now spans }
     requires text { IsUtf8 (span_bytes bytes.now spans.path) }
-    ensures { IfSome (R.remaining reader.old) (λ left. UnlessFaulted result
+    ensures checks { IfSome (R.Read.remaining reader.old) (λ left. UnlessFaulted result
         (ChecksLength (span_bytes bytes.now spans.method) (span_bytes bytes.now spans.path)
         (map (header_bytes bytes.now) (take spans.headers headers.now))
         (drop spans.len bytes.now ++ left) result)) }
+    ensures takes { let fields = map (header_bytes bytes.now) (take spans.headers headers.now) in
+        let wants = WantsAfter fields (drop spans.len bytes.now) in
+        Takes R.reads R.Read.remaining wants
+        (λ got mid new. EndsReading R.reads R.Read.remaining wants got mid new result)
+        reader.old reader.new }
 {
     let fields = Fields::new(bytes, &headers[..spans.headers]);
     let size = body_length(&fields)?;
@@ -209,7 +218,7 @@ pub(crate) fn room_for_fields(alloc: Global, size: usize) -> Result<Vec<HeaderSp
 }
 
 /// Reads a request, with buffers for its head.
-fn read_with<R: Read>(
+fn read_with<R: Source>(
     alloc: Global,
     routes: &Routes,
     reader: &mut R,
@@ -218,8 +227,9 @@ fn read_with<R: Read>(
 ) -> Result<WebRequest, WebFault>
     requires size { length buf.old ≡ HEAD_BYTES }
     requires room { length headers.old ≡ HEAD_FIELDS }
-    ensures { IfSome (R.remaining reader.old)
+    ensures checks { IfSome (R.Read.remaining reader.old)
         (λ bytes. UnlessFaulted result (ChecksHead bytes result)) }
+    ensures takes { TakesRequest R.reads R.Read.remaining reader.old reader.new result }
 {
     let Some((spans, filled)) = read_head(reader, buf, headers)? else {
         return Err(WebFault::Status(WebStatus::BadRequest));
@@ -229,14 +239,16 @@ fn read_with<R: Read>(
 
 /// Reads one request: its head, within 8,192 bytes and 32 fields, and its body. A failed check
 /// refuses it with the status of the first that fails, however the reader splits the bytes. Reads
-/// nothing past the body. Fault 90 if no memory is left, or none was left for the routes.
-pub fn read_request<R: Read>(
+/// no more than it needs, and nothing after a failed read, which it tells as such. Fault 90 if no
+/// memory is left, or none was left for the routes.
+pub fn read_request<R: Source>(
     alloc: Global,
     routes: Option<&Routes>,
     reader: &mut R,
 ) -> Result<WebRequest, WebFault>
-    ensures { IfSome (R.remaining reader.old)
+    ensures checks { IfSome (R.Read.remaining reader.old)
         (λ bytes. UnlessFaulted result (ChecksHead bytes result)) }
+    ensures takes { TakesRequest R.reads R.Read.remaining reader.old reader.new result }
 {
     let Some(routes) = routes else {
         return Err(WebFault::Memory);

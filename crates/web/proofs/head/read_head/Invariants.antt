@@ -1,6 +1,7 @@
-use Rattle.std.proofs.Common.{◌-◌, ◌≤◌, take}
+use Rattle.std.proofs.Common.{◌≡◌, ◌⊎◌, ℕ, ◌-◌, ◌≤◌, List, [], take}
 use Rattle.std.specs.Io.KnownBytes.{Consumes}
-use Rattle.httparse.specs.Grammar.{HasNoRequest}
+use Rattle.httparse.specs.Grammar.{HasNoRequest, MayBecomeRequest}
+use Rattle.web.specs.Taking.{Wants, Came, joined}
 use Rattle.web.specs.declared.limits.TheConstants.{HEAD_BYTES}
 use Rattle.web.proofs.head.read_head.Given as goal
 
@@ -9,6 +10,10 @@ invariant-loop-filled g l = record {
   within : l.filled ≤ HEAD_BYTES;
   taken : Consumes (g.R.Read.remaining l.initial.reader) (g.R.Read.remaining l.reader) (take l.filled l.buf);
   none : HasNoRequest (take l.filled l.buf);
+  may_come : (take l.filled l.buf ≡ []) ⊎ MayBecomeRequest (take l.filled l.buf);
+  pieces : List (List ℕ);
+  came : Came g.R.Source.reads g.R.Read.remaining Wants pieces l.initial.reader l.reader;
+  joined_is : joined pieces ≡ take l.filled l.buf;
 }
 
 abbrev pub decreases-loop-filled : goal.decreases-loop-filled

@@ -21,14 +21,14 @@ returns-in-Some g c =
       | in-Ok w ↦
           request-served c.args.desk_key.now bytes old m.self (g.O.Write.contents c.args.writer.now)
           (g.O.Write.contents c.send.new.writer) c.send.result told c.send.ensures
-          w.in-Ok.request w.asked.result m.answer w.asked.ensures w.in-Ok.ensures c.in-Some.is
+          w.in-Ok.request w.asked.result m.answer w.asked.ensures w.in-Ok.ensures.checks c.in-Some.is
           (subst (λ (s : Working). MeetsAsked w.asked.result old s m.answer) (sym w.self-is)
           (subst (λ (a : Option Answer). MeetsAsked w.asked.result old w.answer-answer.new.self a) (sym w.answer-is) w.answer-answer.ensures))
       | in-Err-Status w ↦
           status-served' w.in-Err-Status.status w.self-is
           (some-is told (Failed w.in-Err-Status.status)
           (sym c.in-Some.is ∙ (w.answer-is ∙ ap (λ s. Some (Failed s)) w.in-Err-Status.status-is)))
-          (read-status bytes c.read_request.result w.in-Err-Status.status (w.in-Err-Status.is ∙ ap Err w.in-Err-Status.field-0-is) c.read_request.ensures)
+          (read-status bytes c.read_request.result w.in-Err-Status.status (w.in-Err-Status.is ∙ ap Err w.in-Err-Status.field-0-is) c.read_request.ensures.checks)
       | in-Err-Memory w ↦
           want-served c.args.desk_key.now bytes old m.self (g.O.Write.contents c.args.writer.now)
           (g.O.Write.contents c.send.new.writer) c.send.result told c.send.ensures
@@ -48,7 +48,7 @@ returns-in-None g c =
     let no : (a : Answer) → m.answer ≡ Some a → ⊥ = λ a is. none-some a (sym c.in-None.is ∙ is) in
     elim m.branch [
       | in-Ok w ↦
-          unanswered c.args.desk_key.now bytes old m.self before _ w.in-Ok.request w.asked.result m.answer w.asked.ensures w.in-Ok.ensures
+          unanswered c.args.desk_key.now bytes old m.self before _ w.in-Ok.request w.asked.result m.answer w.asked.ensures w.in-Ok.ensures.checks
           (subst (λ (s : Working). MeetsAsked w.asked.result old s m.answer) (sym w.self-is)
           (subst (λ (a : Option Answer). MeetsAsked w.asked.result old w.answer-answer.new.self a) (sym w.answer-is) w.answer-answer.ensures))
       | in-Err-Status w ↦ absurd (no _ w.answer-is)
