@@ -11,15 +11,43 @@ LAST = datetime.date(2199, 12, 31)
 LAST_TODAY = datetime.date(2190, 12, 31)
 EPOCH = datetime.date(1970, 1, 1)
 MOST_ROWS = 100  # of a list in one answer
+MOST_LOOKED_AT = 5_000  # rows in one search
 
 # What only asks: it looks at no key and keeps none. All but the page are the desk's alone.
-QUESTIONS = ("copy", "copies", "queue", "account", "debts", "overdue", "shelf", "pulls", "transits", "till")
+SEARCHES = ("find-patrons", "find-titles")
+QUESTIONS = ("copy", "copies", "queue", "account", "debts", "overdue", "shelf", "pulls", "transits", "till", "today", "borrower", *SEARCHES)
 ONLY_ASK = ("page", *QUESTIONS)
+
+# What corrects rows that are there.
+CORRECTIONS = ("card-key", "amend-patron", "amend-branch", "amend-title", "amend-copy", "rehome")
+
+# Whose last word is a name, a text or a card key, also where it has digits alone.
+ENDS_WITH_TEXT = ("branch", "patron", "acquire", "card-key", "amend-patron", "amend-branch", "amend-title", *SEARCHES)
 
 
 def number(day):
     """A day as it is stored: days since 1970-01-01."""
     return (day - EPOCH).days
+
+
+# What the letters from U+00C0 to U+017F are searched as, in their order; the two signs among them stay.
+FIRST_FOLDED, LAST_FOLDED = 0xC0, 0x17F
+LETTERS = (
+    "aaaaaaaceeeeiiiidnooooo×ouuuuytsaaaaaaaceeeeiiiidnooooo÷ouuuuyty"
+    "aaaaaaccccccccddddeeeeeeeeeegggggggghhhhiiiiiiiiiiiijjkkklllllll"
+    "lllnnnnnnnnnoooooooorrrrrrssssssssttttttuuuuuuuuuuuuwwyyyzzzzzzs"
+)
+
+
+def folded(text):
+    """A text as it is searched: without capitals and marks."""
+    fold = lambda it: it.lower() if "A" <= it <= "Z" else LETTERS[ord(it) - FIRST_FOLDED] if FIRST_FOLDED <= ord(it) <= LAST_FOLDED else it
+    return "".join(map(fold, text))
+
+
+def finds(text, name):
+    """Whether each word of a text occurs somewhere in a name."""
+    return all(word in folded(name) for word in folded(text).split(" ") if word)
 
 
 class Refused(Exception):
@@ -218,6 +246,49 @@ class Library:
         self.titles[title] = text
         self.copies.setdefault(copy, {**row, "condition": "present"})
         return "ok"
+
+    # ---- corrections
+
+    def do_card_key(self, patron, card_key):
+        refuse(11, patron not in self.patrons)
+        self.patrons[patron]["card_key"] = card_key
+        return "ok"
+
+    def do_amend_patron(self, patron, kind, name):
+        refuse(21, not 1 <= kind <= 99)
+        refuse(11, patron not in self.patrons)
+        refuse(17, kind not in self.kinds)
+        self.patrons[patron].update(kind=kind, name=name)
+        return "ok"
+
+    def do_amend_branch(self, branch, pickup, name):
+        refuse(21, not (1 <= branch <= 99 and pickup <= 60))
+        refuse(10, branch not in self.branches)
+        self.branches[branch].update(pickup=pickup, name=name)
+        return "ok"
+
+    def do_amend_title(self, title, text):
+        refuse(12, title not in self.titles)
+        self.titles[title] = text
+        return "ok"
+
+    def do_amend_copy(self, copy, kind, price):
+        refuse(21, not (1 <= kind <= 99 and price <= 1_000_000))
+        refuse(13, copy not in self.copies)
+        self.copies[copy].update(kind=kind, price=price)
+        return "ok"
+
+    def do_rehome(self, copy, branch):
+        refuse(10, branch not in self.branches)
+        refuse(13, copy not in self.copies)
+        row = self.copies[copy]
+        refuse(35, row["condition"] == "withdrawn")
+        if branch != row["home"] and self.where(copy)[0].startswith("shelf "):
+            self.transits[copy] = (branch, None)
+        row["home"] = branch
+        return "ok"
+
+    # ---- loans and holds
 
     def do_check_out(self, patron, copy, branch):
         refuse(10, branch not in self.branches)
@@ -453,13 +524,36 @@ class Library:
     def do_till(self, day):
         return self.till(datetime.date.fromisoformat(day)).removesuffix("\n")
 
+    def do_today(self):
+        return f"today {self.today}"
+
+    def do_borrower(self, patron):
+        refuse(11, patron not in self.patrons)
+        return f"{self.patron_line(patron)}\nkind {self.patrons[patron]['kind']}"
+
+    def searched(self, names, shown, after, text):
+        """A part of a search over rows with names: of those above a number, the least first, it looks at one after another until it has found or looked at as many as it may."""
+        above, lines, stopped = sorted(number for number in names if number > after), [], None
+        for at, number in enumerate(above, 1):
+            if finds(text, names[number]):
+                lines.append(shown(number))
+            if len(lines) == MOST_ROWS or at == MOST_LOOKED_AT:
+                stopped = number
+                break
+        return "\n".join([*lines, "end" if stopped in (None, above[-1]) else f"after {stopped}"])
+
+    def do_find_patrons(self, after, text):
+        return self.searched({n: row["name"] for n, row in self.patrons.items()}, self.patron_line, after, text)
+
+    def do_find_titles(self, after, text):
+        return self.searched(self.titles, self.title_words, after, text)
+
     # ---- requests
 
     def handle(self, key, words, caller=0):
         """The lines that answer a request of the desk, or of a patron about what is the patron's own."""
         name, arguments = words[0], [int(word) if word.isdecimal() else word for word in words[1:]]
-        # names and texts are words, also where they are digits
-        if name in ("branch", "patron", "acquire"):
+        if name in ENDS_WITH_TEXT:
             arguments[-1] = words[-1]
         if name == "patron":
             arguments[2] = words[3]

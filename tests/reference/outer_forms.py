@@ -62,6 +62,12 @@ WORDS = {
     "grace": NUMBERS[:3],
     "patron": [is_number, is_number, is_card_key, is_name],
     "acquire": [*NUMBERS[:5], is_name],
+    "card-key": [is_number, is_card_key],
+    "amend-patron": [is_number, is_number, is_name],
+    "amend-branch": [is_number, is_number, is_name],
+    "amend-title": [is_number, is_name],
+    "amend-copy": NUMBERS[:3],
+    "rehome": NUMBERS[:2],
     "check-out": NUMBERS[:3],
     "check-in": NUMBERS[:2],
     "renew": NUMBERS[:1],
@@ -85,6 +91,10 @@ WORDS = {
     "pulls": NUMBERS[:2],
     "transits": NUMBERS[:2],
     "till": [is_day],
+    "today": [],
+    "borrower": NUMBERS[:1],
+    "find-patrons": [is_number, is_name],
+    "find-titles": [is_number, is_name],
 }
 
 
