@@ -11,6 +11,12 @@ export const COMMANDS = {
   "grace": ["kind", "copy-kind", "days"],
   "patron": ["patron", "kind", "card-key", "name"],
   "acquire": ["copy", "title", "kind", "home", "price", "text"],
+  "card-key": ["patron", "card-key"],
+  "amend-patron": ["patron", "kind", "name"],
+  "amend-branch": ["branch", "pickup", "name"],
+  "amend-title": ["title", "text"],
+  "amend-copy": ["copy", "kind", "price"],
+  "rehome": ["copy", "branch"],
   "check-out": ["patron", "copy", "branch"],
   "check-in": ["copy", "branch"],
   "renew": ["loan"],
@@ -34,10 +40,14 @@ export const COMMANDS = {
   "pulls": ["branch", "after"],
   "transits": ["branch", "after"],
   "till": ["day"],
+  "today": [],
+  "borrower": ["patron"],
+  "find-patrons": ["after", "text"],
+  "find-titles": ["after", "text"],
 };
 
 // The commands that only ask.
-export const QUESTIONS = ["page", "copy", "copies", "queue", "account", "debts", "overdue", "shelf", "pulls", "transits", "till"];
+export const QUESTIONS = ["page", "copy", "copies", "queue", "account", "debts", "overdue", "shelf", "pulls", "transits", "till", "today", "borrower", "find-patrons", "find-titles"];
 
 // The words of a line: parted by blanks, and what stands in quotes of one kind is one word. Null where a quote isn't closed.
 export function wordsOf(line) {

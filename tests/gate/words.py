@@ -50,7 +50,7 @@ def heads(manual, table):
     *parts, last = parts
     last, end, after = last.partition("\n.El")
     said = {part.split()[0]: part.partition("\n")[2].strip("\n") for part in [*parts, last]}
-    items = ["\n".join(it for it in (f".It Cm {name} Ar {' '.join(words)}", said.get(name, "")) if it) for name, words in table.items()]
+    items = ["\n".join(it for it in (" ".join([f".It Cm {name}", *(["Ar", *words] if words else [])]), said.get(name, "")) if it) for name, words in table.items()]
     return before + "\n".join(items) + end + after
 
 
@@ -164,7 +164,7 @@ def main():
     check("the manual page's commands", words, table)
     completed = re.search(r'local commands="([^"]*)"', read("docs/circ.bash")).group(1).split()
     check("the completion's words", completed, list(table))
-    ruled = re.findall(r"^\| `([a-z-]+)(?: [A-Z ]+)?` \| [^|]* \| `([a-z-]+) ", read("docs/RULES.md"), re.M)
+    ruled = re.findall(r"^\| `([a-z-]+)(?: [A-Z ]+)?` \| [^|]* \| `([a-z-]+)[ `]", read("docs/RULES.md"), re.M)
     check("the commands of the rules", sorted(name for name, _ in ruled), sorted(table))
     check("the examples of the rules", [name for name, example in ruled if name != example], [])
     check("the numbers that have a meaning", set(told), numbers("crates/terms/src/refusal.rt") | numbers("crates/terms/src/fault.rt"))
