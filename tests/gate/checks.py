@@ -22,8 +22,8 @@ import tempfile
 from room import TOP
 from lib.checking import check, part, run_script
 from lib.runs import GROUND, answers, circ, say, status_of, whole
-from lib.serving import DESK_KEY, Serving, body_of_hold, told
-from reference.desk_rules import OVERDUE_HEAD, QUESTIONS, SHELF_HEAD, Library
+from lib.serving import DESK_KEY, Serving, by_patron, told
+from reference.desk_rules import OVERDUE_HEAD, PATRONS_COMMANDS, QUESTIONS, SHELF_HEAD, Library
 from reference.outer_forms import WORDS
 
 # A line: the words and the answer, whose lines are parted by strokes; `weekly N` before it asks N times, each with a last word that is a week later, `counted N` with a second word that is one more.
@@ -376,8 +376,7 @@ check-out 1 30 1 -> loan 1 due 2191-12-31
 1/cardkey00001 renew 1 -> refused 39
 """
 
-# What a patron may send, and the form of the page of a patron with no loan and no hold.
-PATRONS_COMMANDS = ("page", "place-hold", "place-hold-from", "cancel-hold", "renew")
+# The form of the page of a patron with no loan and no hold.
 PAGE = "patron P owed N name NAME"
 # The lines of the reports, of which docs/RULES.md tells the columns. The forms are patterns, in which capitals stand as in those that it has.
 OF_REPORTS = {
@@ -411,16 +410,6 @@ class Line:
                 words[1] = str(int(words[1]) + at)
             yield f"k{number}-{at}", words
 
-    def by_route(self, key):
-        """The method, the target, the fields and the body by which the patron asks."""
-        name, fields = self.words[0], {"Card-Key": self.card_key, "Request-Key": key}
-        if name == "page":
-            return "GET", f"/patrons/{self.words[1]}", {"Card-Key": self.card_key}, None
-        if name in ("place-hold", "place-hold-from"):
-            return "POST", f"/patrons/{self.words[1]}/holds", fields, body_of_hold(self.words)
-        last = f"holds/{self.words[1]}/cancel" if name == "cancel-hold" else f"loans/{self.words[1]}/renew"
-        return "POST", f"/patrons/{self.patron}/{last}", fields, None
-
 
 def lists_of(text):
     """The lists of a text, which empty lines part, each of numbered lines; a line that begins with # is a remark."""
@@ -452,7 +441,7 @@ def over_the_web(path, asked):
     with Serving(path, len(asked)) as serving:
         for key, words, line in asked:
             how = ("POST", "/desk", {"Desk-Key": DESK_KEY, "Request-Key": key}, json.dumps(words).encode())
-            serving.answers(*(line.by_route(key) if line.patron else how), *told(line.answer))
+            serving.answers(*(by_patron(line.patron, line.card_key, key, words) if line.patron else how), *told(line.answer))
 
 
 def compared(folder, small, rules, lists):

@@ -9,7 +9,11 @@ a time as there are processors. The lines of a story:
 
     story SENTENCE                 begins a story, and says what it shows
     new                            its library isn't there yet, in place of the small one
+    after FILE                     the one story of that file comes before it, in the same library
     KEY WORDS.. -> ANSWER          a request and its answer; a word with blanks stands in quotes
+    P/CARDKEY KEY WORDS.. -> ANSWER
+                                   a request of patron P, who shows that card key: over the web, by the route of patrons for these
+                                   words, or by the desk's where there is none
     weekly N KEY WORDS.. -> ANSWER N such requests, under KEY0, KEY1, .., each with a last word that is a week later
     counted N KEY WORDS.. -> ANSWER
                                    N such requests, each with a second word that is one more
@@ -46,8 +50,9 @@ from room import TOP
 from lib.checking import check, count, fails, none, part, run_script
 from lib.messages import makes_library, message
 from lib.runs import GROUND, PROGRAM, rows, status_of, whole, write
+from lib.serving import DESK_KEY, Serving, by_patron, told
 from reference.desk_rules import Library
-from reference.outer_forms import is_understood
+from reference.outer_forms import is_understood, said
 
 KINDS = ("weekly", "counted", "report", "rows", "pairs", "sql", "select", "damage")
 SILENT = ("pairs", "sql", "damage")  # lines with no answer of their own
@@ -82,12 +87,20 @@ class Step:
                 sys.exit(f"{place}: a line with no answer")
             self.answer = [answer[:-1]] if answer else []
         first, _, rest = line.partition(" ")
-        self.kind, self.text = (first, rest) if first in KINDS else ("request", line)
+        self.patron = self.card_key = None
+        if re.fullmatch("[0-9]+/[A-Za-z0-9]+", first):
+            self.patron, self.card_key = int(first.partition("/")[0]), first.partition("/")[2]
+            self.kind, self.text = "request", rest
+        else:
+            self.kind, self.text = (first, rest) if first in KINDS else ("request", line)
 
     def runs(self):
         """About how often the program is run for it."""
         return {"pairs": 2 * len(self.given) ** 2, "weekly": 400, "counted": 100, "damage": 3}.get(self.kind, 1)
 
+    def by_rules(self, library, key, words):
+        """The line that the rules give to one of its requests."""
+        return said(library, DESK_KEY, self.patron, DESK_KEY if self.patron is None else self.card_key, key, words)
 
     def requests(self):
         """Its requests, each with its key."""
@@ -155,9 +168,14 @@ class Story:
 
     def ask(self, step, key, words, lines):
         """One request; the rules give the same lines, where its words are understood."""
-        self.send(step, ["file", self.path, key, *words], lines, status_of(lines[0]))
+        if step.patron is None:
+            self.send(step, ["file", self.path, key, *words], lines, status_of(lines[0]))
+        else:
+            with Serving(self.path, 1) as serving:
+                found = serving.ask(*by_patron(step.patron, step.card_key, key, words))[:2]
+            self.compare(step.place, f"{key} {words} of {step.patron}", found, told("\n".join(lines)))
         if self.rules and status_of(lines[0]) != 4:
-            self.ask_rules(step, key, self.rules.handle(key, words), lines)
+            self.ask_rules(step, key, step.by_rules(self.rules, key, words), lines)
 
     def run_by_rules(self, rules):
         """Asks the rules alone what the steps ask, where nothing is written past the desk."""
@@ -167,7 +185,7 @@ class Story:
                 if status_of(step.answer[0]) == 4:
                     self.compare(step.place, f"{words}", is_understood(words), False)
                 else:
-                    self.ask_rules(step, key, self.rules.handle(key, words), step.answer)
+                    self.ask_rules(step, key, step.by_rules(self.rules, key, words), step.answer)
 
     def do_request(self, step):
         for key, words in step.requests():
@@ -235,6 +253,9 @@ def stories_of(path):
                 found[-1].steps[-1].given.append(text)
             elif line == "new":
                 found[-1].is_new = True
+            elif mark == "after":
+                (before,) = stories_of(os.path.join(os.path.dirname(path), text))
+                found[-1].steps += before.steps
             elif line and mark != "#":
                 found[-1].steps.append(Step(place, line))
     for story in found:

@@ -165,6 +165,18 @@ def body_of_hold(words):
     return json.dumps({"branch": int(branch), **{"from": day for day in days}, "title": int(title)}).encode()
 
 
+def by_patron(patron, card_key, key, words):
+    """The method, the target, the fields and the body by which a patron asks for what these words say: by the route of patrons that is for them, else by the desk's, which the card key doesn't open."""
+    fields, own = {"Card-Key": card_key, "Request-Key": key}, f"/patrons/{patron}"
+    if words[0] == "page":
+        return "GET", f"/patrons/{words[1]}", {"Card-Key": card_key}, None
+    if words[0] in ("place-hold", "place-hold-from"):
+        return "POST", f"/patrons/{words[1]}/holds", fields, body_of_hold(words)
+    if words[0] in ("cancel-hold", "renew"):
+        return "POST", f"{own}/holds/{words[1]}/cancel" if words[0] == "cancel-hold" else f"{own}/loans/{words[1]}/renew", fields, None
+    return "POST", "/desk", fields, json.dumps(words).encode()
+
+
 def a_library(folder, name):
     """The small library that all begin with."""
     path = os.path.join(folder, name)

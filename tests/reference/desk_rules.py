@@ -18,6 +18,10 @@ SEARCHES = ("find-patrons", "find-titles")
 QUESTIONS = ("copy", "copies", "queue", "account", "debts", "overdue", "shelf", "pulls", "transits", "till", "today", "borrower", *SEARCHES)
 ONLY_ASK = ("page", *QUESTIONS)
 
+# What a patron may send, and of it what names the patron, who may only be the one who asks.
+PATRONS_COMMANDS = ("page", "place-hold", "place-hold-from", "cancel-hold", "renew")
+NAMES_A_PATRON = PATRONS_COMMANDS[:3]
+
 # What corrects rows that are there.
 CORRECTIONS = ("card-key", "amend-patron", "amend-branch", "amend-title", "amend-copy", "rehome")
 

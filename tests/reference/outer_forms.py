@@ -9,7 +9,7 @@ import json
 import math
 import re
 
-from reference.desk_rules import FIRST, LAST
+from reference.desk_rules import FIRST, LAST, NAMES_A_PATRON, PATRONS_COMMANDS
 
 LEAST_BYTES_OF_TEXT, MOST_BYTES_OF_TEXT = 1, 120
 HEAD_BYTES, HEAD_FIELDS, BODY_BYTES, MOST_WORDS = 8192, 32, 65_536, 12
@@ -380,10 +380,12 @@ def told(library, desk_key, bytes_):
 
 
 def said(library, desk_key, patron, shown, key, words):
-    """The line that answers a request: first the caller's key is looked at, then the request's own, and then whose loan or hold it is."""
+    """The line that answers a request: first the caller's key is looked at and whether the caller may send it, then the request's own key, and then whose loan or hold it is."""
     if patron is None:
         return library.handle(key, words) if shown == desk_key else "refused 81"
     if patron not in library.patrons or library.patrons[patron]["card_key"] != shown:
+        return "refused 81"
+    if words[0] not in PATRONS_COMMANDS or (words[0] in NAMES_A_PATRON and int(words[1]) != patron):
         return "refused 81"
     kind, unknown = {"renew": (library.loans, 14), "cancel-hold": (library.holds, 15)}.get(words[0], ({}, 0))
     is_others = unknown and (int(words[1]) not in kind or kind[int(words[1])]["patron"] != patron)
