@@ -3,8 +3,7 @@
 patron's by the patrons' routes.
 
 Each list of requests has a new library: a copy of the small one that the fifteen requests of `GROUND` make. Its answers are those
-of docs/RULES.md, worked out by hand; the rules in plain Python (`desk_rules`) say them once more, as far as they reach. The
-desk's lists are run by words on one library and by POST /desk on another, and end in the same rows. In the patrons' lists a line
+of docs/RULES.md, worked out by hand; the rules in plain Python (`desk_rules`) say them once more. The desk's lists are run by words on one library and by POST /desk on another, and end in the same rows. In the patrons' lists a line
 that begins with a number and a card key is what that patron asks by the routes. Which checks there are, and which forms, is read
 from the table of commands in docs/RULES.md, and from what it says of the desk's questions, so that none is left out. So a program that tells a fault to each renewal, or to any
 other kind of request, fails here: no clause can say that there is memory.
@@ -18,13 +17,16 @@ import re
 import shlex
 import shutil
 import tempfile
+import unicodedata
 
-from room import TOP
+import room  # finds lib and reference
 from lib.checking import check, part, run_script
+from lib.messages import read
 from lib.runs import GROUND, answers, circ, say, status_of, whole
 from lib.serving import DESK_KEY, Serving, by_patron, told
-from reference.desk_rules import OVERDUE_HEAD, PATRONS_COMMANDS, QUESTIONS, SHELF_HEAD, Library
-from reference.outer_forms import WORDS
+from reference.desk_rules import FIRST_FOLDED, OVERDUE_HEAD, PATRONS_COMMANDS, QUESTIONS, SHELF_HEAD, Library
+from reference.desk_rules import LETTERS as RULED_LETTERS
+from reference.outer_forms import WORDS, said
 
 # A line: the words and the answer, whose lines are parted by strokes; `weekly N` before it asks N times, each with a last word that is a week later, `counted N` with a second word that is one more.
 DESK = """
@@ -302,11 +304,180 @@ account 1 0 -> patron 1 owed 2550 name Ann Bell / line 1 2026-03-17 fine 100 loa
 debts 0 -> patron 1 owed 2550 name Ann Bell / end
 till 2026-03-17 -> till 2026-03-17 / fines                100 / prices              2500 / payments              30 / waivers               20
 
+# card keys, and patrons with another kind
+card-key 9 newkey000001 -> refused 11
+card-key 1 newkey000001 -> ok
+card-key 1 newkey000001 -> ok
+patron 1 1 cardkey00001 'Ann Bell' -> refused 20
+patron 1 1 newkey000001 'Ann Bell' -> ok
+check-out 1 10 1 -> loan 1 due 2026-03-09
+begin-day 2026-03-10 -> ok
+check-in 10 1 -> fine 20 shelf 1
+check-out 1 11 1 -> loan 2 due 2026-03-16
+amend-patron 9 100 Ann -> refused 21
+amend-patron 1 0 Ann -> refused 21
+amend-patron 9 3 Ann -> refused 11
+amend-patron 1 3 Ann -> refused 17
+kind 2 1 0 19 -> ok
+rule 2 1 3 0 50 200 -> ok
+amend-patron 1 2 'Ann Özil' -> ok
+amend-patron 1 2 'Ann Özil' -> ok
+patron 1 1 newkey000001 'Ann Bell' -> refused 20
+patron 1 2 newkey000001 'Ann Özil' -> ok
+page 1 -> patron 1 owed 20 name Ann Özil / loan 2 due 2026-03-16 renewals 1 title 100 Rivers of the North
+borrower 1 -> patron 1 owed 20 name Ann Özil / kind 2
+check-out 1 30 1 -> refused 16
+check-out 1 10 1 -> refused 37
+place-hold 1 300 1 -> refused 51
+renew 2 -> refused 38
+pay 1 1 -> owed 19
+renew 2 -> loan 2 due 2026-03-23
+check-in 11 1 -> fine 0 shelf 1
+check-out 1 10 1 -> loan 3 due 2026-03-13
+
+# amend-branch: a shelf limit stays, and so do the closed weekdays
+amend-branch 100 5 Hall -> refused 21
+amend-branch 9 61 Hall -> refused 21
+amend-branch 9 5 Hall -> refused 10
+place-hold 2 300 2 -> hold 1
+check-in 30 2 -> fine 0 ready 1 at 2 until 2026-03-05
+amend-branch 2 1 'Harbour Hall' -> ok
+amend-branch 2 1 'Harbour Hall' -> ok
+shelf 2 0 ->       hold    copy  patron until      title /          1      30       2 2026-03-05 Night Ferries / end
+branch 2 3 Harbour -> refused 20
+branch 2 1 'Harbour Hall' -> ok
+place-hold 3 200 2 -> hold 2
+check-in 20 2 -> fine 0 ready 2 at 2 until 2026-03-03
+unshelve-cancelled 2 -> shelf 2
+amend-branch 2 6 Harbour -> ok
+place-hold 3 200 2 -> hold 3
+check-in 20 2 -> fine 0 ready 3 at 2 until 2026-03-10
+
+# amend-title and amend-copy: pages, lists and prices as they are now, loans and lines as they were set
+amend-title 999 Rivers -> refused 12
+check-out 1 10 1 -> loan 1 due 2026-03-09
+place-hold 2 100 1 -> hold 1
+amend-title 100 'Rivers of the South' -> ok
+amend-title 100 'Rivers of the South' -> ok
+page 1 -> patron 1 owed 0 name Ann Bell / loan 1 due 2026-03-09 renewals 1 title 100 Rivers of the South
+page 2 -> patron 2 owed 0 name Bo Carr / hold 1 at 1 waiting title 100 Rivers of the South
+pulls 1 0 -> hold 1 copy 11 title 100 Rivers of the South / end
+acquire 12 100 1 1 2500 'Rivers of the North' -> refused 20
+acquire 12 100 1 1 2500 'Rivers of the South' -> ok
+amend-copy 99 0 900 -> refused 21
+amend-copy 99 1 1000001 -> refused 21
+amend-copy 99 1 900 -> refused 13
+amend-copy 10 2 900 -> ok
+amend-copy 10 2 900 -> ok
+acquire 10 100 1 1 2500 'Rivers of the South' -> refused 20
+acquire 10 100 2 1 900 'Rivers of the South' -> ok
+cancel-hold 1 -> ok
+renew 1 -> loan 1 due 2026-03-16
+begin-day 2026-03-17 -> ok
+overdue 1 0 ->       loan  patron    copy due         late title /          1       1      10 2026-03-16     1 Rivers of the South / end
+missing 10 -> fine 20 price 900
+amend-copy 10 1 700 -> ok
+account 1 0 -> patron 1 owed 920 name Ann Bell / line 1 2026-03-17 fine 20 loan 1 title 100 Rivers of the South / line 2 2026-03-17 price 900 loan 1 title 100 Rivers of the South / end
+check-in 10 1 -> fine 0 shelf 1
+check-out 2 10 1 -> loan 2 due 2026-03-23
+
+# rehome, wherever a copy is
+rehome 99 9 -> refused 10
+rehome 99 2 -> refused 13
+rehome 10 1 -> ok
+copy 10 -> copy 10 home 1 kind 1 price 2500 title 100 Rivers of the North / shelf 1
+rehome 10 2 -> ok
+copy 10 -> copy 10 home 2 kind 1 price 2500 title 100 Rivers of the North / transit 2
+rehome 10 2 -> ok
+acquire 10 100 1 1 2500 'Rivers of the North' -> refused 20
+acquire 10 100 1 2 2500 'Rivers of the North' -> ok
+check-out 1 10 1 -> refused 32
+rehome 10 1 -> ok
+copy 10 -> copy 10 home 1 kind 1 price 2500 title 100 Rivers of the North / transit 2
+check-in 10 2 -> fine 0 transit 1
+check-in 10 1 -> fine 0 shelf 1
+check-out 1 11 1 -> loan 1 due 2026-03-09
+rehome 11 2 -> ok
+copy 11 -> copy 11 home 2 kind 1 price 2500 title 100 Rivers of the North / loan 1 due 2026-03-09 patron 1 Ann Bell
+check-in 11 1 -> fine 0 transit 2
+check-in 11 2 -> fine 0 shelf 2
+check-out 2 11 1 -> refused 30
+place-hold 2 300 1 -> hold 1
+check-in 30 1 -> fine 0 ready 1 at 1 until 2026-03-07
+rehome 30 2 -> ok
+copy 30 -> copy 30 home 2 kind 2 price 800 title 300 Night Ferries / ready 1 at 1 until 2026-03-07 patron 2 Bo Carr
+unshelve-cancelled 1 -> transit 2
+missing 20 -> ok
+rehome 20 1 -> ok
+copy 20 -> copy 20 home 1 kind 1 price 1200 title 200 Salt Roads / missing
+check-in 20 2 -> fine 0 transit 1
+withdraw 11 -> ok
+rehome 11 1 -> refused 35
+transits 1 0 -> copy 20 title 200 Salt Roads / end
+transits 2 0 -> copy 30 title 300 Night Ferries / end
+copies 100 0 -> title 100 Rivers of the North / copy 10 shelf 1 / copy 11 withdrawn / end
+
+# a rehomed copy that travels for a hold goes on to it, and one that leaves its shelf is to be taken from there no more
+place-hold 2 300 2 -> hold 1
+check-in 30 1 -> fine 0 transit 2 for 1
+rehome 30 2 -> ok
+copy 30 -> copy 30 home 2 kind 2 price 800 title 300 Night Ferries / transit 2 for 1 patron 2 Bo Carr
+cancel-hold 1 -> ok
+check-in 30 2 -> fine 0 shelf 2
+place-hold 1 200 1 -> hold 2
+pulls 2 0 -> hold 2 copy 20 title 200 Salt Roads / end
+rehome 20 1 -> ok
+pulls 2 0 -> end
+pulls 1 0 -> end
+check-in 20 1 -> fine 0 ready 2 at 1 until 2026-03-07
+
+# today, borrowers, and what is found
+today -> today 2026-03-02
+begin-day 2026-03-03 -> ok
+today -> today 2026-03-03
+borrower 9 -> refused 11
+borrower 2 -> patron 2 owed 0 name Bo Carr / kind 1
+find-patrons 0 'BELL aN' -> patron 1 owed 0 name Ann Bell / end
+find-patrons 0 n -> patron 1 owed 0 name Ann Bell / patron 3 owed 0 name Cy Dunn / end
+find-patrons 1 n -> patron 3 owed 0 name Cy Dunn / end
+find-patrons 3 n -> end
+find-patrons 0 ann-bell -> end
+find-patrons 0 'ann dunn' -> end
+find-titles 0 r -> title 100 Rivers of the North / title 200 Salt Roads / title 300 Night Ferries / end
+find-titles 100 't  r' -> title 200 Salt Roads / title 300 Night Ferries / end
+find-titles 300 r -> end
+acquire 40 400 1 1 900 'Ærø und ÇEŞME, 2 × 3' -> ok
+find-titles 0 'aro cesme' -> title 400 Ærø und ÇEŞME, 2 × 3 / end
+find-titles 0 'ÅRÖ ×' -> title 400 Ærø und ÇEŞME, 2 × 3 / end
+find-titles 0 aero -> end
+find-titles 0 '2 x' -> end
+acquire 41 410 1 1 900 Σειρά -> ok
+find-titles 0 Σειρά -> title 410 Σειρά / end
+find-titles 0 σειρά -> end
+LETTERS
+
+# the hundredth found is the last that is there, and then it isn't
+counted 100 patron 1001 1 cardkey00009 'Zoë Sand' -> ok
+find-patrons 0 'sand zoe' -> FOUND / end
+patron 2000 1 cardkey00010 'Di Ek' -> ok
+find-patrons 0 'sand zoe' -> FOUND / after 1100
+find-patrons 1100 'sand zoe' -> end
+
 # more than a hundred rows
 counted 101 acquire 1001 500 1 1 900 Charts -> ok
 copies 500 0 -> title 500 Charts / ROWS / after 1100
 copies 500 1100 -> title 500 Charts / copy 1101 shelf 1 / end
 """.replace("ROWS", " / ".join(f"copy {number} shelf 1" for number in range(1001, 1101)))
+DESK = DESK.replace("FOUND", " / ".join(f"patron {number} owed 0 name Zoë Sand" for number in range(1001, 1101)))
+
+# Which letters a search takes for one another: as many in a title as its text may have.
+MANY = 32
+LETTERS = re.search(r"^<!-- letters: .*-->\n\n((?:    .*\n)+)", read("docs/RULES.md"), re.MULTILINE)[1].split()
+LETTERS = re.findall("." * MANY, "".join(LETTERS))
+MARKED = ["".join(map(chr, range(FIRST_FOLDED + at, FIRST_FOLDED + at + MANY))) for at in range(0, len(LETTERS) * MANY, MANY)]
+DESK = DESK.replace("LETTERS", "\n".join(line for number, (plain, marked) in enumerate(zip(LETTERS, MARKED), 42) for line in (
+    f"acquire {number} {10 * number} 1 1 900 {marked} -> ok", f"find-titles 0 {plain} -> title {10 * number} {marked} / end", f"find-titles 0 {marked} -> title {10 * number} {marked} / end",
+    f"amend-title {10 * number} {plain} -> ok", f"find-titles 0 {marked} -> title {10 * number} {plain} / end")))
 
 # Before each patron's command comes 81, and 14 and 15 are told of another's loan and hold too.
 PATRONS = """
@@ -376,6 +547,41 @@ check-out 1 30 1 -> loan 1 due 2191-12-31
 1/cardkey00001 renew 1 -> refused 39
 """
 
+# With another card key the old one opens nothing, and it is good again once it is given again.
+PATRONS += """
+1/cardkey00001 page 1 -> patron 1 owed 0 name Ann Bell
+1/newkey000001 page 1 -> refused 81
+card-key 1 newkey000001 -> ok
+1/cardkey00001 page 1 -> refused 81
+1/cardkey00001 place-hold 1 100 1 -> refused 81
+1/cardkey00001 place-hold-from 1 100 1 2026-03-03 -> refused 81
+1/newkey000001 page 1 -> patron 1 owed 0 name Ann Bell
+1/newkey000001 place-hold 1 100 1 -> hold 1
+1/cardkey00001 cancel-hold 1 -> refused 81
+check-out 1 30 1 -> loan 1 due 2026-03-14
+1/cardkey00001 renew 1 -> refused 81
+card-key 1 newkey000002 -> ok
+1/cardkey00001 page 1 -> refused 81
+1/newkey000001 renew 1 -> refused 81
+1/newkey000002 renew 1 -> loan 1 due 2026-03-26
+amend-title 300 'Day Ferries' -> ok
+1/newkey000002 page 1 -> patron 1 owed 0 name Ann Bell / loan 1 due 2026-03-26 renewals 0 title 300 Day Ferries / hold 1 at 1 waiting title 100 Rivers of the North
+card-key 1 cardkey00001 -> ok
+1/newkey000002 cancel-hold 1 -> refused 81
+1/cardkey00001 cancel-hold 1 -> ok
+2/cardkey00001 page 2 -> refused 81
+1/cardkey00001 card-key 1 newkey000003 -> refused 81
+1/cardkey00001 amend-patron 1 1 Ann -> refused 81
+1/cardkey00001 amend-branch 1 5 Main -> refused 81
+1/cardkey00001 amend-title 100 Mine -> refused 81
+1/cardkey00001 amend-copy 10 1 0 -> refused 81
+1/cardkey00001 rehome 10 2 -> refused 81
+1/cardkey00001 today -> refused 81
+1/cardkey00001 borrower 1 -> refused 81
+1/cardkey00001 find-patrons 0 ann -> refused 81
+1/cardkey00001 find-titles 0 rivers -> refused 81
+"""
+
 # The form of the page of a patron with no loan and no hold.
 PAGE = "patron P owed N name NAME"
 # The lines of the reports, of which docs/RULES.md tells the columns. The forms are patterns, in which capitals stand as in those that it has.
@@ -417,12 +623,11 @@ def lists_of(text):
             for part in text.strip().split("\n\n")]
 
 
-def are_the_rules(rules, lists):
-    """The answers are those of the rules in plain Python, which say nothing of who may ask. How many these were."""
-    told = [it for it in lists if it[2].answer not in ("refused 81", "refused 14", "refused 15") or not it[2].patron]
-    for key, words, line in told:
-        check(f"the rules at {key} {words}", rules.handle(key, words, int(line.patron or 0)), line.answer)
-    return len(told)
+def are_the_rules(rules, asked):
+    """The answers are those of the rules in plain Python."""
+    for key, words, line in asked:
+        patron, shown = (int(line.patron), line.card_key) if line.patron else (None, DESK_KEY)
+        check(f"the rules at {key} {words}", said(rules, DESK_KEY, patron, shown, key, words), line.answer)
 
 
 def all_asked(lines):
@@ -446,10 +651,9 @@ def over_the_web(path, asked):
 
 def compared(folder, small, rules, lists):
     """Runs lists, each on new libraries, and compares the rows that they end in."""
-    by_rules, every = 0, 0
     for at, lines in enumerate(lists):
         asked, known = all_asked(lines), copy.deepcopy(rules)
-        by_rules, every = by_rules + are_the_rules(known, asked), every + len(asked)
+        are_the_rules(known, asked)
         for way in (over_the_web,) if any(line.patron for _, line in lines) else (by_words, over_the_web):
             path = os.path.join(folder, f"{at}.db")
             shutil.copy(small, path)
@@ -458,13 +662,11 @@ def compared(folder, small, rules, lists):
             for name, wanted in known.tables().items():
                 check(f"list {at}, {way.__name__}: rows of {name}", sorted(found[name], key=repr), sorted(wanted, key=repr))
             check(f"list {at}, {way.__name__}: its audit", circ(["audit", path]), ("sound", 0))
-    check(f"{by_rules} of {every} answers are those of the rules", by_rules > every // 2, True)
 
 
 def commands():
     """Of each command its checks but 70, and the forms of its replies, as docs/RULES.md has them."""
-    with open(os.path.join(TOP, "docs", "RULES.md"), encoding="utf-8") as file:
-        text = file.read()
+    text = read("docs/RULES.md")
     places = re.findall("`(.*?)`", re.search(r"^PLACE is ([^.(]*)", text, re.MULTILINE)[1])
     check("how many forms a place has", len(places), 4)
     table, shown = {}, forms_of_questions(text)
@@ -478,13 +680,15 @@ def commands():
 
 
 def forms_of_questions(text):
-    """The forms of the lines that each question is answered by, as docs/RULES.md has them: of a copy, of the lists, and of the till report. PLACE is left as it is where nobody is told with it."""
+    """The forms of the lines that each question is answered by, as docs/RULES.md has them: of a copy, a borrower, today, the lists, and the till report. PLACE is left as it is where nobody is told with it."""
     told = re.search(r"^A copy is shown in two lines, ([^(]*)", text, re.MULTILINE)[1]
     forms = {"copy": re.findall("`(.*?)`", told), "till": OF_REPORTS["till"]}
     check("a copy, and how many forms its place has", len(forms["copy"]), 8)
+    *forms["borrower"], today = re.findall("`(.*?)`", re.search(r"^A borrower is shown in two lines, ([^(]*)", text, re.MULTILINE)[1])
+    forms["today"] = [today]
     places = [re.sub(" patron P NAME$", "", form) for form in forms["copy"][1:]]
     table = re.search(r"^\| list \| head \| row \|\n\|-.*\n((?:\|.*\n)+)", text, re.MULTILINE)[1]
-    for name, head, rows_ in re.findall(r"^\| ([a-z]+) \| (.*) \| (.*) \|$", table, re.MULTILINE):
+    for name, head, rows_ in re.findall(r"^\| ([a-z-]+) \| (.*) \| (.*) \|$", table, re.MULTILINE):
         each = [form.replace("PLACE", place) for form in re.findall("`(.*?)`", f"{head} {rows_}") for place in (places if "PLACE" in form else [""])]
         forms[name] = [*(each or OF_REPORTS[name]), "end"]
     check("the questions that are told of", sorted(forms), sorted(QUESTIONS))
@@ -512,7 +716,11 @@ def main():
     table, desks, patrons = commands(), lists_of(DESK), lists_of(PATRONS)
     check("the commands of the table", list(table), list(WORDS))
     none_is_left_out([line for lines in desks for _, line in lines], table)
-    check("a list that goes on", sum(line.answer.endswith("\nafter 1100") for lines in desks for _, line in lines), 1)
+    check("lists that go on", sum(line.answer.endswith("\nafter 1100") for lines in desks for _, line in lines), 2)
+    check("the letters of the rules in plain Python", "".join(LETTERS), RULED_LETTERS)
+    bare = {marked: unicodedata.normalize("NFD", marked)[0].lower() for marked in "".join(MARKED)}
+    wrong = [marked for marked, plain in zip("".join(MARKED), "".join(LETTERS)) if bare[marked].isascii() and bare[marked] != plain]
+    check(f"letters with marks stand for those without, {sum(map(str.isascii, bare.values()))} of them", wrong, [])
     own = {name: ([81] + [it for it in table[name][0] if it != 11], table[name][1]) for name in PATRONS_COMMANDS}
     none_is_left_out([line for lines in patrons for _, line in lines if line.patron], own)
     rules = Library()

@@ -537,14 +537,13 @@ class Library:
 
     def searched(self, names, shown, after, text):
         """A part of a search over rows with names: of those above a number, the least first, it looks at one after another until it has found or looked at as many as it may."""
-        above, lines, stopped = sorted(number for number in names if number > after), [], None
+        above, lines = sorted(number for number in names if number > after), []
         for at, number in enumerate(above, 1):
             if finds(text, names[number]):
                 lines.append(shown(number))
-            if len(lines) == MOST_ROWS or at == MOST_LOOKED_AT:
-                stopped = number
-                break
-        return "\n".join([*lines, "end" if stopped in (None, above[-1]) else f"after {stopped}"])
+            if at < len(above) and (len(lines) == MOST_ROWS or at == MOST_LOOKED_AT):
+                return "\n".join([*lines, f"after {number}"])
+        return "\n".join([*lines, "end"])
 
     def do_find_patrons(self, after, text):
         return self.searched({n: row["name"] for n, row in self.patrons.items()}, self.patron_line, after, text)
