@@ -22,7 +22,7 @@ from collections import Counter
 from room import TOP
 from lib.checking import check, run_script
 from lib.gate_libraries import PARTS, check_of, kit, libraries
-from reference.desk_rules import EPOCH, QUESTIONS, Library
+from reference.desk_rules import CORRECTIONS, EPOCH, QUESTIONS, Library
 
 HISTORIES, REQUESTS = 40, 25
 ASKED, QUESTIONED = 8, 2  # in so many of them a question comes after each second request: what it is answered takes the prover a second
@@ -38,7 +38,11 @@ FOUNDING = [
 IMPORTS = """-- Random histories, and what the rules in plain Python answer.
 use Rattle.std.specs.Prelude.{◌≡◌, [], ◌∷◌, true, false, refl, Some, None}
 use Rattle.std.specs.Fmt.{digits}
+use Rattle.std.specs.Str.{chars, encode_utf8_all}
+use lib.Utf8.{encode}
+use Rattle.finding.specs.Finding.{fold, folded, begins_with, occurs_in, words, finds}
 use Rattle.calendar.specs.Days.{day_text, civil_of}
+use Rattle.terms.specs.declared.command.Command.TheVariants.{SetCardKey, AmendPatron, AmendBranch, AmendTitle, AmendCopy, Rehome}
 use Rattle.terms.specs.declared.command.Command.TheVariants.{BeginDay, Branch, Week, CloseDay, OpenDay, Kind, Rule, Grace, Patron, Acquire, CheckOut, CheckIn, Renew, PlaceHold, CancelHold, Unshelve, UnshelveCancelled, Missing, Withdraw, Pay, Waive, Ask}
 use Rattle.terms.specs.declared.question.Question.TheVariants as question
 use Rattle.terms.specs.Texts.{reply_text, reply_words, routed_words}
@@ -47,22 +51,33 @@ use Rattle.std.specs.Prelude.{codes}
 """
 
 
+def text_of(word):
+    """A text as the definitions write it."""
+    return f'(codes "{word}")' if word.isascii() else f'(encode_utf8_all (codes "{word}"))'
+
+
+def named(name):
+    """The variant for a word."""
+    return "".join(part.capitalize() for part in name.split("-"))
+
+
 def as_term(words):
     """A command as the definitions write it: a variant, and its parts. A question is one of the command `Ask`."""
-    if words[0] in QUESTIONS:
-        parts = [str((datetime.date.fromisoformat(words[1]) - EPOCH).days)] if words[0] == "till" else words[1:]
-        return f"Ask (question.{' '.join([words[0].capitalize(), *parts])})"
-    name, parts = words[0], [f'(codes "{word}")' if not word.isdecimal() else word for word in words[1:]]
+    name, parts = words[0], [word if word.isdecimal() else text_of(word) for word in words[1:]]
     for at, word in enumerate(words[1:]):
         if re.fullmatch(r"\d{4}-\d{2}-\d{2}", word):
             parts[at] = str((datetime.date.fromisoformat(word) - EPOCH).days)
+    if name in QUESTIONS:
+        return f"Ask {' '.join(['(question.' + named(name), *parts]) + ')' if parts else 'question.' + named(name)}"
     if name == "week":
         parts[1] = f'(closed_in "{words[2]}")'
+    if name == "card-key":
+        name = "set-card-key"
     if name == "place-hold":
         parts.append("None")
     if name == "place-hold-from":
         name, parts[3] = "place-hold", f"(Some {parts[3]})"
-    return " ".join(["".join(part.capitalize() for part in name.split("-")), *parts])
+    return " ".join([named(name), *parts])
 
 
 class Clerk:
@@ -107,6 +122,7 @@ class Clerk:
         return self.rng.choice([
             ["copy", one(10, 11, 12, 20, 30)], ["copies", title, after], ["queue", title, after], ["account", patron, after], ["debts", after], ["overdue", branch, after],
             ["shelf", branch, after], ["shelf", branch, "0"], ["account", patron, "0"], ["pulls", branch, after], ["pulls", branch, "0"], ["transits", branch, after], ["till", self.day(0, 0, -1, -2)],
+            ["today"], ["borrower", patron], ["find-patrons", after, self.rng.choice(("n", "bell an", "ÁNN", "R c", "ozil", "ann-bell"))], ["find-titles", after, self.rng.choice(("R", "s  r", "NoRth", "ŔÓÀD"))],
         ])
 
     def request(self):
@@ -124,7 +140,9 @@ class Clerk:
             ["renew", loan], ["cancel-hold", hold], ["unshelve", hold], ["unshelve-cancelled", hold], ["missing", copy], ["withdraw", copy], ["pay", patron, amount],
             ["waive", patron, amount], ["close-day", branch, day(1, 5, 6, 7)], ["open-day", branch, day(1, 5, 6, 7)], ["kind", "1", one(2, 5), one(1, 3, 5), "500"],
             ["rule", "1", one(1, 2), one(3, 6), one(0, 2), "20", "100"], ["grace", "1", one(1, 1, 2, 3), one(1, 2, 3, 366)], ["grace", "1", "1", one(0, 1, 2)], ["week", branch, self.rng.choice(["ooooooc", "coooooc", "ooooooo", "ccccccc"])],
-            ["branch", branch, one(3, 5), "Main"], ["patron", patron, "1", "cardkey00001", "Ann Bell"], ["acquire", one(10, 12), "100", "1", "1", "2500", "Rivers of the North"],
+            ["branch", branch, one(3, 5), "Main"], ["patron", patron, "1", "cardkey00001", "Ann Bell"], ["kind", "2", one(1, 2), one(1, 2), one(0, 500)], ["rule", "2", one(1, 2), one(3, 9), "1", "10", "50"],
+            ["card-key", one(1, 2, 9), one("cardkey00001", "newkey000001")], ["amend-patron", patron, one(1, 2, 2, 100), one("Ann Bell", "Ann Ozil")], ["amend-branch", branch, one(0, 3, 7, 61), one("Main", "Hall")],
+            ["amend-title", title, one("Rivers of the North", "Salt Rivers")], ["amend-copy", copy, one(1, 2, 2, 0), one(900, 2500)], ["rehome", copy, one(1, 2)], ["rehome", copy, one(1, 2)], ["acquire", one(10, 12), "100", "1", "1", "2500", "Rivers of the North"],
         ]
         return self.rng.choice(often if self.rng.random() < 0.6 else seldom)
 
@@ -147,9 +165,9 @@ def history(rng, has_questions):
 
 
 def has_rows(words, answer):
-    """Whether a question is shown a row: a copy or sums, or a list with more than its head and its end."""
+    """Whether a question is shown a row: a copy, sums, a day or a borrower, or a list with more than its head and its end."""
     heads = {"copies": 1, "queue": 1, "account": 1, "overdue": 1, "shelf": 1}.get(words[0], 0)
-    return not answer.startswith("refused") and (words[0] in ("copy", "till") or answer.count("\n") > heads)
+    return not answer.startswith("refused") and (words[0] in ("copy", "till", "today", "borrower") or answer.count("\n") > heads)
 
 
 def shown_in(asked):
@@ -175,7 +193,7 @@ def lemma(name, asked):
 {name} : Gives ground
     (desk ({commands} ∷ []))
     ({answers} ∷ [])
-unfolding digits reply_text reply_words routed_words day_text civil_of
+unfolding digits reply_text reply_words routed_words day_text civil_of fold folded begins_with occurs_in words finds chars encode
 {name} = gives refl
 """
 
@@ -225,6 +243,8 @@ def main(words):
     check("the check came to its end", bool(ended), True)
     check("the wrong answer is rejected", "wrong_answer" in rejected, True)
     check("each question was shown rows", seldom, [])
+    amended = {words[0] for its in histories for words, answer in its if answer == "ok"}
+    check("each correction was accepted", [name for name in CORRECTIONS if name not in amended] if many == HISTORIES else [], [])
     for at in range(many):
         check(f"history {at} is answered so by the definitions", f"history_{at}" in differ, False)
 

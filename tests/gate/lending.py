@@ -183,6 +183,7 @@ BEGUN = [shlex.join(words) for _, words, _ in GROUND] + [
     "acquire 12 101 1 1 900 'Slow Water'", "check-out 1 10 1", "check-out 1 11 1", "place-hold 2 100 1",
     "place-hold 3 300 1", "check-in 30 1", "place-hold 1 200 1", "check-in 20 1", "begin-day 2026-03-07",
     "check-out 3 12 1", "begin-day 2026-03-12", "missing 11", "pay 1 30", "place-hold-from 1 101 1 2026-03-13",
+    "kind 2 1 1 0", "rule 2 1 3 0 50 200",
 ]
 
 
@@ -192,13 +193,15 @@ CROWDED = [
     "check-in 12 2", "check-in 11 1", "renew 1", "renew 3", "place-hold 2 101 2", "place-hold 1 100 2",
     "place-hold-from 2 200 2 2026-03-13", "begin-day 2026-03-13", "cancel-hold 1", "unshelve 2", "unshelve-cancelled 3",
     "missing 30", "withdraw 11", "pay 1 30", "waive 1 2500", "page 1", "grace 1 1 2", "rule 1 1 6 1 20 100",
+    "card-key 1 newkey000001", "amend-patron 1 2 Ann", "amend-branch 1 0 Hall", "amend-title 100 Rivers", "amend-copy 10 2 900",
+    "rehome 12 2", "rehome 20 1",
 ]
 
 
 # What is asked after them, one after a pair; as many as have no divisor in common with the number of requests, so that each comes after each of them.
 AFTER_PAIRS = [
     "copy 10", "copies 100 0", "queue 100 0", "account 1 0", "debts 0", "overdue 1 0", "shelf 1 0", "pulls 1 0", "pulls 2 0", "transits 1 0", "transits 2 0",
-    "till 2026-03-12", "queue 101 0",
+    "till 2026-03-12", "queue 101 0", "today", "borrower 1", "find-patrons 0 bell", "find-titles 0 riv",
 ]
 
 
