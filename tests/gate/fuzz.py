@@ -30,7 +30,7 @@ from lib.checking import apart, check, count, counts, run_script
 from lib.messages import message
 from lib.runs import GROUND, PROGRAM, say
 from lib.serving import DESK_KEY, Serving, everything
-from reference.desk_rules import QUESTIONS, Library
+from reference.desk_rules import CORRECTIONS, QUESTIONS, SEARCHES, Library
 from reference.outer_forms import HEADER, HEAD_BYTES, MARK, MOST_LEVELS, WORDS, Failed, answer_to, is_card_key, is_day, is_mask, is_name, lines_of, read_request
 
 SEED, CASES = 28, 10_000
@@ -45,8 +45,15 @@ DAYS = ["2026-03-03", "2026-03-04", "2026-03-09", "2026-04-01", "2026-05-01", "2
 FIRST_DAYS = ["2026-03-04", "2026-03-09", "2026-04-01", "2026-05-01", "2026-06-01", "2190-12-31"]  # of holds
 ODD_DAYS = ["2026-3-3", "2026-02-29", "2028-02-29", "2026-13-01", "2191-01-01", "2199-12-31", "2200-01-01", "1999-12-31", "20260303", "2026-03-03 ", ""]
 GRACE = ["0", "1", "1", "1", "2", "3", "365", "366"]
-ASKED_OF = {"copy": ["10", "11", "20", "30"], "copies": ["100", "200", "300"], "queue": ["100", "200", "300"]}
+PATRONS, TITLES, COPIES = ["1", "2", "3"], ["100", "200", "300"], ["10", "11", "20", "30"]
 AFTERS = ["0", "0", "0", "1", "2", "10", "4294967295"]  # from which a list goes on
+# What questions and corrections mostly name, by their words.
+MOSTLY = {
+    "copy": [COPIES], "copies": [TITLES, AFTERS], "queue": [TITLES, AFTERS], "account": [PATRONS, AFTERS], "debts": [AFTERS], "borrower": [PATRONS], "find-patrons": [AFTERS], "find-titles": [AFTERS],
+    "card-key": [PATRONS], "amend-patron": [PATRONS, ["1", "1", "2"]], "amend-branch": [["1", "2"], ["0", "3", "60", "61"]], "amend-title": [TITLES], "amend-copy": [COPIES, ["1", "2"]],
+    "rehome": [COPIES, ["1", "2"]], **{name: [PATRONS, AFTERS] for name in ("overdue", "shelf", "pulls", "transits")},
+}
+SOUGHT = ["n", "bell ann", "ÁNN", "R c", "o", "rivers NORTH", "s  r", "bucher", "日本", "x", "7", "maps old"]
 MASKS, ODD_MASKS = ["ooooooc", "coooooc", "ooooooo"], ["ccccccc", "oooooo", "oooooooo", "OOOOOOO", "oooooox"]
 NAMES = ["Main", "Hill", "Rivers of the North", "Salt Roads", "Night Ferries", "Bücher", "日本 \U0001f4da", 'Maps, "Old"', "\u2028\u0085", "x" * 120, "7"]
 ODD_NAMES = ["", " Hill", "Hill ", "x" * 121, "ü" * 60, "ü" * 60 + "x", "a\nb", "a\tb", "a\x7fb", "a\x00b", "-Hill"]
@@ -95,10 +102,13 @@ class Cases:
         """Words of the desk."""
         name = self.rng.choice([*WORDS, "grace", "check-out", "check-in", "place-hold", "place-hold-from", "renew", "pay"])
         words = [name] + [self.word(name, form) for form in WORDS[name]]
-        if name in QUESTIONS and name != "till":
-            # mostly of what is there
-            words[1] = self.one_of(ASKED_OF.get(name, ["1", "2", "3"]), ODD_NUMBERS)
-            words[2:] = [self.one_of(AFTERS, ODD_NUMBERS) for _ in words[2:]]
+        for place, those in enumerate(MOSTLY.get(name, []), 1):
+            words[place] = self.one_of(those, ODD_NUMBERS)
+        if name in SEARCHES:
+            words[2] = self.one_of(SOUGHT, ODD_NAMES)
+        # mostly the key that the patron had at the beginning, so that it opens something again
+        if name == "card-key" and self.odd(0.6):
+            words[2] = f"cardkey{words[1]:0>5}"
         if self.odd(0.05):
             place = self.rng.randrange(len(words))
             words[place:place + self.rng.randrange(2)] = self.rng.choices(["1", "", "-1", "page", "help", "--", name], k=self.rng.randrange(4))
@@ -364,7 +374,7 @@ def take_in_all(cases, path, library, where, seen):
 
 
 def play(ground, library, seed, number):
-    """One round: how often each status came and each question was answered, how many holds have a first day, and how often grace days were set."""
+    """One round: how often each status came, each question was answered and each correction accepted, how many holds have a first day, and how often grace days were set."""
     cases, seen, shown, where = Cases(random.Random(f"{seed} {number}"), number), Counter(), Counter(), f"seed {seed}, round {number}"
     with tempfile.TemporaryDirectory() as folder:
         path = os.path.join(folder, "round.db")
@@ -372,7 +382,8 @@ def play(ground, library, seed, number):
         ask_all(cases, path, library, where, seen, shown)
         take_in_all(cases, path, library, where, seen)
         runs.the_rows_are(path, library)
-    return seen, shown, sum(hold["first"] is not None for hold in library.holds.values()), sum(text.startswith("grace ") for text, _ in library.kept.values())
+    accepted = Counter(text.partition(" ")[0] for text, _ in library.kept.values())
+    return seen, shown, sum(hold["first"] is not None for hold in library.holds.values()), accepted
 
 
 def main(seed=SEED, cases=CASES):
@@ -382,22 +393,23 @@ def main(seed=SEED, cases=CASES):
         say(ground, GROUND)
         for key, words, line in GROUND:
             check(f"{key} by the rules", library.handle(key, words), line)
-        seen, shown, first_days, grace = Counter(), Counter(), 0, 0
+        seen, shown, first_days, accepted = Counter(), Counter(), 0, Counter()
         with closing(pool.map(apart, *zip(*[(play, ground, library, seed, number) for number in range(rounds)]))) as played:
             for made, its in played:
                 count(*its)
                 if made is None:
                     continue
-                found, questions, held, graced = made
-                seen, shown, first_days, grace = seen + found, shown + questions, first_days + held, grace + graced
+                found, questions, held, done = made
+                seen, shown, first_days, accepted = seen + found, shown + questions, first_days + held, accepted + done
                 if seen.total() % TOLD == 0:
                     print(f"fuzz: {seen.total()} cases by the seed {seed}, {counts['failed']} differences so far", flush=True)
     wanted = [f"answers {status}" for status in (200, 400, 403, 404, 405, 409, 413)] + [f"files that end with status {status}" for status in (0, 2, 4)]
     check("each status came", [name for name in wanted if not seen[name]], [])
     check("each question was answered", [name for name in QUESTIONS if not shown[name]], [])
-    check("holds with a first day were placed, and grace days set", (first_days > 0, grace > 0), (True, True))
+    check("holds with a first day were placed, and grace days set", (first_days > 0, accepted["grace"] > 0), (True, True))
+    check("each correction was accepted", [name for name in CORRECTIONS if not accepted[name]], [])
     told = ", ".join(f"{many} {name}" for name, many in sorted(seen.items()))
-    print(f"fuzz: {seen.total()} cases by the seed {seed} in {time.monotonic() - began:.0f} seconds, {first_days} holds from a day on, {shown.total() - shown['none']} questions answered, grace days set {grace} times: {told}")
+    print(f"fuzz: {seen.total()} cases by the seed {seed} in {time.monotonic() - began:.0f} seconds, {first_days} holds from a day on, {shown.total() - shown['none']} questions answered, {sum(accepted[name] for name in CORRECTIONS)} corrections accepted, grace days set {accepted['grace']} times: {told}")
 
 
 if __name__ == "__main__":

@@ -66,7 +66,8 @@ def words_of_commands(path):
     """Words that are no command, by file and sent."""
     for name, forms in WORDS.items():
         asks(["file", path, "k1", name, "-"], NOT_UNDERSTOOD)
-        asks(["file", path, "k1", name], NOT_UNDERSTOOD)
+        # one command is its name alone
+        asks(["file", path, "k1", name], NOT_UNDERSTOOD if forms else "today 2000-01-01\n")
         asks(["file", path, "k1", name, *["1"] * 9], NOT_UNDERSTOOD)
         asks(["send", "8080", "desk key", "k1", name], NOT_UNDERSTOOD)
         given = [RIGHT[it] for it in forms]
