@@ -14,7 +14,7 @@ import tempfile
 import room  # finds lib and reference
 from lib.checking import check, part, run_script
 from lib.runs import answers, circ, kill_at_work, month, report, rows_now, status_of, the_rows_are, timed, whole
-from reference.desk_rules import QUESTIONS, Library
+from reference.desk_rules import QUESTIONS, SEARCHES, Library, folded
 
 
 # What the month has to have, on rows that the desk made: commands, each with its reply's first word or its refusal.
@@ -25,6 +25,9 @@ IN_THE_MONTH = {
     ("grace", "ok"), ("grace", "16"), ("grace", "21"),
     ("copy", "copy"), ("copies", "title"), ("queue", "title"), ("queue", "12"), ("account", "patron"), ("debts", "patron"), ("debts", "end"), ("overdue", "loan"),
     ("shelf", "hold"), ("shelf", "10"), ("pulls", "hold"), ("pulls", "end"), ("pulls", "10"), ("transits", "copy"), ("till", "till"),
+    ("card-key", "ok"), ("card-key", "11"), ("amend-patron", "ok"), ("amend-patron", "11"), ("amend-patron", "17"), ("amend-branch", "ok"), ("amend-branch", "10"), ("amend-branch", "21"),
+    ("amend-title", "ok"), ("amend-title", "12"), ("amend-copy", "ok"), ("amend-copy", "13"), ("amend-copy", "21"), ("rehome", "ok"), ("rehome", "10"), ("rehome", "35"), ("patron", "20"), ("acquire", "20"),
+    ("today", "today"), ("borrower", "patron"), ("borrower", "11"), ("find-patrons", "patron"), ("find-patrons", "end"), ("find-titles", "title"), ("find-titles", "end"),
 }
 
 
@@ -37,6 +40,13 @@ class Asker:
     def one_of(self, numbers):
         return str(self.rng.choice([*numbers, 99_999] if self.rng.random() < 0.1 or not numbers else [*numbers]))
 
+    def sought(self, names):
+        """A text to be searched: parts of one name, of two, or of none."""
+        draw = self.rng
+        words = " ".join(draw.choices(sorted(names) or ["Ann"], k=draw.choice((1, 1, 1, 2)))).split()
+        parts = [word[draw.randrange(min(2, len(word))):][:draw.randint(1, 4)] for word in draw.sample(words, min(2, len(words)))]
+        return " ".join(draw.choice((part, part.upper(), folded(part))) for part in parts)
+
     def words(self):
         """The next question, and its answer by the rules."""
         it = self.library
@@ -47,10 +57,12 @@ class Asker:
         parts = {"copy": lambda: [self.one_of(it.copies)], "copies": lambda: [self.one_of(it.titles), *after],
                  "queue": lambda: [self.one_of(waited if self.rng.random() < 0.8 else it.titles), *after],
                  "account": lambda: [self.one_of(owners if self.rng.random() < 0.8 else it.patrons), *after], "debts": lambda: after,
-                 "till": lambda: [str(self.rng.choice([it.today, *(line["day"] for line in it.lines)]))]}
+                 "till": lambda: [str(self.rng.choice([it.today, *(line["day"] for line in it.lines)]))], "today": list, "borrower": lambda: [self.one_of(it.patrons)],
+                 "find-patrons": lambda: [*after, self.sought([row["name"] for row in it.patrons.values()])], "find-titles": lambda: [*after, self.sought(it.titles.values())]}
         words = [name, *parts.get(name, lambda: [self.one_of(it.branches), *after])()]
         answer = it.handle("", words)
-        has_rows = re.search(r"^(copy|hold|line) [0-9]|^patron .*\n(?:.*\n)*end$|^ +[0-9]|^(?:fines|prices|payments|waivers) .*[1-9]", answer, re.MULTILINE)
+        has_rows = re.search(r"^(copy|hold|line|kind) [0-9]|^today |^patron .*\n(?:.*\n)*end$|^ +[0-9]|^(?:fines|prices|payments|waivers) .*[1-9]", answer, re.MULTILINE) or (
+            name in SEARCHES and "\n" in answer)
         self.shown += bool(has_rows)
         self.kinds.update([name] if has_rows else [])
         return words, answer
