@@ -24,10 +24,11 @@ import room  # finds lib and reference
 from lib import runs
 from lib.checking import check, part, run_script
 from lib.runs import GROUND, rows, timed
-from lib.serving import ANN, ANNS_PAGE, BO, FAILED, HOLD, PAGE_OF_ANN, Serving, a_library, answer, body_of_hold, everything, hold_with, is_let_go, told
+from lib.serving import ANN, ANNS_PAGE, BO, FAILED, HOLD, PAGE_OF_ANN, Serving, a_library, answer, by_patron, everything, hold_with, is_let_go, told
 from reference.desk_rules import Library
 
 HALF_A_HEAD = PAGE_OF_ANN[:30]
+NOT_ALLOWED = 403, b'{"refusal":81}'
 PATRONS, TITLES, RENEWALS = range(1, 9), range(101, 151), 99
 HOLDS = len(TITLES)
 
@@ -39,19 +40,16 @@ def at_once(calls):
     return [it.result() for it in made]
 
 
-def asked(serving, caller, key, words):
-    """What a request is answered: by the desk's route, or by that of the patron who asks."""
+def asked(serving, caller, key, words, card_key=None):
+    """What a request is answered: by the desk's route, or by that of the patron who asks, with the first card key unless another is shown."""
     if not caller:
         return serving.desk(key, words)
-    fields = {"Card-Key": f"cardkey{caller:05}", "Request-Key": key}
-    if words[0] == "renew":
-        return serving.ask("POST", f"/patrons/{caller}/loans/{words[1]}/renew", fields)[:2]
-    return serving.ask("POST", f"/patrons/{caller}/holds", fields, body_of_hold(words))[:2]
+    return serving.ask(*by_patron(caller, card_key or f"cardkey{caller:05}", key, words))[:2]
 
 
-def page_of(serving, patron):
-    """What a patron's look at the own page is answered."""
-    return serving.ask("GET", f"/patrons/{patron}", {"Card-Key": f"cardkey{patron:05}"})[:2]
+def page_of(serving, patron, card_key=None):
+    """What a patron's look at the own page is answered, with the first card key unless another is shown."""
+    return serving.ask("GET", f"/patrons/{patron}", {"Card-Key": card_key or f"cardkey{patron:05}"})[:2]
 
 
 def page_by(library, patron):
@@ -160,20 +158,107 @@ def a_reply_is_on_the_page(town, workers):
 
 
 def pages_of_a_month(folder):
-    """The month of commands with two workers: after each, every page that it changed is shown anew, and another patron's as it was."""
-    path, library, pages, turns = os.path.join(folder, "month.db"), Library(), {}, []
+    """The month of commands with two workers: after each, every page that it changed is shown anew, and another patron's as it was; none is shown with a card key that another took the place of."""
+    path, library, pages, turns, void = os.path.join(folder, "month.db"), Library(), {}, [], {}
     for at, (key, *words) in enumerate(runs.month()):
+        keys = {patron: row["card_key"] for patron, row in library.patrons.items()}
         before, wanted = pages, told(library.handle(key, words))
+        void.update({patron: old for patron, old in keys.items() if library.patrons[patron]["card_key"] != old})
         pages = {patron: page_by(library, patron) for patron in library.patrons}
         looks = [patron for patron in pages if pages[patron] != before.get(patron)] + [*pages][at % max(len(pages), 1):][:1]
-        turns.append((key, words, wanted, [(patron, pages[patron]) for patron in looks]))
+        shown = [(patron, library.patrons[patron]["card_key"], pages[patron]) for patron in looks]
+        turns.append((key, words, wanted, shown + [(patron, void[patron], NOT_ALLOWED) for patron in {*looks, *([int(words[1])] if words[0] == "card-key" else [])} if patron in void]))
     check("commands change pages of several patrons", max(len(looks) for *_, looks in turns) > 2, True)
+    check("card keys are void", sum(page == NOT_ALLOWED for *_, looks in turns for *_, page in looks) > 5, True)
     with Serving(path, sum(1 + len(looks) for *_, looks in turns), workers=2) as serving:
         for key, words, wanted, looks in turns:
             check(f"{key} {words}", asked(serving, 0, key, words), wanted)
-            for patron, page in looks:
-                check(f"the page of {patron} after {key} {words}", page_of(serving, patron), page)
+            for patron, card_key, page in looks:
+                check(f"the page of {patron} after {key} {words}", page_of(serving, patron, card_key), page)
     runs.the_rows_are(path, library)
+
+
+def a_corrected_title(town, workers):
+    """The text of a title that eight patrons hold or have on loan is set anew: each of their pages shows it at once, whichever worker is asked, and each other title as it was."""
+    path, library = town.copied(f"corrected{workers}.db")
+    title, turns = str(TITLES[0]), 12
+    for patron in PATRONS:
+        check("a hold by the rules", library.handle(f"h{patron}", ["place-hold", str(patron), title, "1"]).startswith("hold "), True)
+    with Serving(path, len(PATRONS) + turns * (2 + len(PATRONS)), workers=workers) as serving:
+        for patron in PATRONS:
+            check("a hold", asked(serving, 0, f"h{patron}", ["place-hold", str(patron), title, "1"])[0], 200)
+        for turn in range(turns):
+            # in turn the title that all hold, and one that a single patron has on loan
+            words = ["amend-title", title if turn % 2 else str(1 + turn), f"Edition-{turn}"]
+            check(f"{words}", asked(serving, 0, f"e{turn}", words), told(library.handle(f"e{turn}", words)))
+            for patron in PATRONS:
+                check(f"the page of {patron} after {words}", page_of(serving, patron), page_by(library, patron))
+            found = ["find-titles", "0", f"edition-{turn}"]
+            check(f"{found}", asked(serving, 0, f"f{turn}", found), told(library.handle("", found)))
+    runs.the_rows_are(path, library)
+
+
+def void_card_keys(town):
+    """Eight workers, and a desk that gives two patrons one card key after another, while six clients of theirs show the newest key that they know of, and keys of before: what is sent with a key after the answer
+    to the next `card-key` is refused, a page as a request, and what was accepted with a key stands in the list of accepted requests between the two that set it and the next. No page is shown with a key once another was."""
+    path, library = town.copied("void.db")
+    patrons, changes = PATRONS[:2], 60
+    keys = {patron: [f"cardkey{patron:05}", *(f"newkey{patron:03}x{turn:03}" for turn in range(changes))] for patron in patrons}
+    known, sent, is_over = dict.fromkeys(patrons, 0), dict.fromkeys(patrons, 0), threading.Event()
+
+    def change(patron, turn):
+        sent[patron] = turn
+        check(f"card key {turn} of {patron}", asked(serving, 0, f"v{patron}-{turn}", ["card-key", str(patron), keys[patron][turn]]), (200, b'{"reply":"ok"}'))
+        known[patron] = turn
+        # at once, whichever worker is asked
+        check(f"card key {turn - 1} of {patron} is void", page_of(serving, patron, keys[patron][turn - 1]), NOT_ALLOWED)
+        check(f"card key {turn} of {patron} opens the page", page_of(serving, patron, keys[patron][turn])[0], 200)
+
+    def desk():
+        try:
+            for turn in range(1, changes + 1):
+                for patron in patrons:
+                    change(patron, turn)
+        finally:
+            is_over.set()
+
+    def client(number):
+        patron, mixed, found, at = patrons[number % 2], random.Random(number), [], 0
+        while not is_over.is_set():
+            at += 1
+            before = known[patron]
+            which = max(before - mixed.choice((0, 0, 0, 1, 5)), 0)
+            words = ["page", str(patron)] if mixed.random() < 0.5 else ["renew", str(2 * patron - mixed.randrange(2))]
+            key = f"w{number}-{at}"
+            status, body = asked(serving, patron, key, words, keys[patron][which])
+            found.append((key, words, which, before, sent[patron], (status, body)))
+        return found
+
+    with Serving(path, 8_000_000, status=-signal.SIGKILL, workers=8) as serving:
+        _, *told_ = at_once([desk, *[lambda number=number: client(number) for number in range(6)]])
+        serving.run.kill()
+    shown, refused, raced, kept = 0, 0, 0, 0
+    place = {key: at for at, (caller, key) in enumerate(rows(path, "SELECT caller, key FROM kept ORDER BY rowid"))}
+    for number, found in enumerate(told_):
+        patron = patrons[number % 2]
+        for key, words, which, before, after, answer_ in found:
+            if which < before:
+                check(f"{words} of {patron} with card key {which} after the answer to {before}", answer_, NOT_ALLOWED)
+                refused += 1
+                continue
+            # the key was good when the request was sent; meanwhile another may have come
+            check(f"{words} of {patron} with card key {which}, which was the newest", answer_ != NOT_ALLOWED or after > which, True)
+            raced += answer_ == NOT_ALLOWED
+            shown += answer_[0] == 200
+            if answer_[0] == 200 and words[0] == "renew":
+                kept += 1
+                begun = place.get(f"v{patron}-{which}", -1)
+                ended = place.get(f"v{patron}-{which + 1}", len(place))
+                check(f"{words} of {patron} with card key {which} stands between the two", begun < place[key] < ended, True)
+    print(f"hall: {shown} pages were shown or renewals accepted with the newest card key, {refused} of void ones were refused, and {raced} while the next one was on its way")
+    check("there were many of each", (shown > 100, kept > 50, refused > 100), (True, True, True))
+    with runs.as_it_is(path) as left:
+        handle_kept(left, library)
 
 
 def one_is_held(folder):
@@ -301,6 +386,12 @@ def lending_of(patron):
         yield f"{key}g", ["pay", other, "2000"]
         yield f"{key}h", ["waive", other, "500"]
         yield f"{key}i", ["check-in", number, "1"]
+        # corrections: the copy stands on its shelf again at the end
+        yield f"{key}j", ["rehome", number, "2"]
+        yield f"{key}k", ["amend-title", number, f"Edition-{turn}"]
+        yield f"{key}l", ["rehome", number, "1"]
+        yield f"{key}m", ["amend-patron", other, "1", f"Reader-{turn}"]
+        yield f"{key}n", ["check-in", number, "1"]
     yield f"q{patron}-renew", ["renew", on_loan]
 
 
@@ -308,7 +399,8 @@ def asked_of(patron, turn):
     """What another clerk asks meanwhile about that patron, the title and the branches."""
     number, other = str(TITLES[patron]), str(patron + 4)
     return [["copy", number], ["copies", number, "0"], ["queue", number, "0"], ["account", other, "0"], ["debts", "0"], ["shelf", str(1 + turn % 2), "0"], ["pulls", "1", "0"],
-            ["transits", "2", "0"], ["till", ("2026-03-02", "2026-03-20")[turn // 10 % 2]], ["overdue", "1", "0"]][turn % 10]
+            ["transits", "2", "0"], ["till", ("2026-03-02", "2026-03-20")[turn // 14 % 2]], ["overdue", "1", "0"], ["today"], ["borrower", other], ["find-titles", "0", "edition"],
+            ["find-patrons", "0", "reader"]][turn % 14]
 
 
 class Seen:
@@ -579,8 +671,10 @@ def main():
         town = Town(folder)
         for workers in (2, 8):
             part(a_reply_is_on_the_page, town, workers)
+            part(a_corrected_title, town, workers)
         part(fifty_holds_each, town)
         part(no_step_back, town)
+        part(void_card_keys, town)
         part(questions_at_once, town)
         part(a_full_disk, town)
         part(kills, town)

@@ -11,13 +11,16 @@ import os
 import re
 import shutil
 import sqlite3
+import subprocess
 import tempfile
+from collections import Counter
 from contextlib import closing
 
 import room  # finds lib and reference
 from lib.checking import check, part, run_script
-from lib.runs import GROUND, ROOM, answers, indexes_by_hand, memory_of, report, rows, say, the_rows_are, whole, write
-from reference.desk_rules import EPOCH, MOST_ROWS, Library
+from lib.runs import GROUND, HEADER, PROGRAM, ROOM, answers, indexes_by_hand, memory_of, report, rows, say, take_in, the_rows_are, whole, write
+from lib.serving import DESK_KEY, Serving, told
+from reference.desk_rules import EPOCH, MOST_LOOKED_AT, MOST_ROWS, SEARCHES, Library, finds
 
 
 def reports(folder):
@@ -202,11 +205,16 @@ def number_of(row):
     return int(re.search("[0-9]+", row)[0])
 
 
+def asked_from(words, after):
+    """The words by which a list is asked for from a number on: the number stands last, and before the text of a search."""
+    return [words[0], after, *words[1:]] if words[0] in SEARCHES else [*words, after]
+
+
 def walked(path, library, words):
     """A list asked for again and again to its end, each part being that of the rules: the numbers of its rows."""
     found, after, heads = [], "0", {"copies": 1, "queue": 1, "account": 1, "overdue": 1, "shelf": 1}.get(words[0], 0)
     while after:
-        asked = [*words, after]
+        asked = asked_from(words, after)
         wanted = library.handle("w", asked)
         check(f"{asked}", answers(path, "w", asked), (wanted + "\n", 0))
         *rows_, end = wanted.split("\n")[heads:]
@@ -251,6 +259,75 @@ def long_lists(folder):
     the_rows_are(old, library)
 
 
+def a_search_of_five_thousand(folder):
+    """Titles of a copies file: a search stops at the 5,000th row that it looks at, or at the hundredth that it finds, and goes on where a row is left. By words, by POST /desk with eight workers and by
+    `circ send` it is answered the same."""
+    path, copies = os.path.join(folder, "volumes.db"), os.path.join(folder, "volumes.csv")
+    say(path, [*GROUND, ("a1", ["acquire", "40", "400", "1", "2", "900", "2 × 2 Œuvres"], "ok")])
+    each = range(20_001, 25_001)
+    with open(copies, "w", encoding="utf-8") as file:
+        file.write(HEADER + "".join(f"{n},{n},Volume,1,1,100,end\n" for n in each))
+    check("the volumes", take_in(path, copies), ("".join(f"row {at} ok\n" for at in range(1, len(each) + 1)) + "accepted 5000 refused 0\n", 0))
+    say(path, [("a2", ["acquire", "25001", "25001", "1", "1", "100", "Zebra Crossings"], "ok"), ("a3", ["acquire", "25002", "25002", "1", "1", "100", "Volume"], "ok")])
+    zebra = "title 25001 Zebra Crossings"
+    searches = [
+        # four titles stand before 20001
+        (["0", "zebra"], "after 24996"),
+        (["24996", "zebra"], f"{zebra}\nend"),
+        (["20000", "zebra"], "after 25000"),
+        (["20001", "zebra"], f"{zebra}\nafter 25001"),
+        (["20002", "zebra"], f"{zebra}\nend"),
+        (["0", "volume"], "".join(f"title {n} Volume\n" for n in range(20_001, 20_101)) + "after 20100"),
+        # exactly 5,000 rows are left, and the last hundred of them
+        (["20002", "nothing"], "end"),
+        (["20001", "nothing"], "after 25001"),
+        (["24901", "volume"], "".join(f"title {n} Volume\n" for n in (*range(24_902, 25_001), 25_002)) + "end"),
+        (["24900", "volume"], "".join(f"title {n} Volume\n" for n in range(24_901, 25_001)) + "after 25000"),
+    ]
+    for words, wanted in searches:
+        check(f"{words}", answers(path, "s1", ["find-titles", *words]), (wanted + "\n", 0))
+    with Serving(path, 2 * len(searches), workers=8) as serving:
+        for words, wanted in searches:
+            check(f"{words} posted", serving.desk("s1", ["find-titles", *words]), told(wanted))
+            run = subprocess.run([PROGRAM, "send", str(serving.port), DESK_KEY, "s1", "find-titles", *words], capture_output=True, timeout=60)
+            check(f"{words} sent", (run.stdout, run.stderr, run.returncode), (told(wanted)[1] + b"\n", b"", 0))
+
+
+# So many rows of patrons and of titles more, whose numbers aren't one after another.
+NAMED = 12_000
+SEARCHED = [["find-patrons", "zoe sand"], ["find-patrons", "carr 1"], ["find-patrons", "nobody"], ["find-titles", "arorikke"], ["find-titles", "vol 7"], ["find-titles", "nothing"]]
+
+
+def long_searches(folder):
+    """Searches of many rows, part by part: each is that of the rules, from whatever number on it is asked for, and each row that is found is shown once. They take the memory of a part of the rows."""
+    path, library, out = os.path.join(folder, "named.db"), Library(), os.path.join(folder, "named.txt")
+    say(path, GROUND)
+    for key, words, _ in GROUND:
+        library.handle(key, words)
+    for n in range(1, NAMED + 1):
+        number = 1_000 + n * 3 + n % 2
+        library.patrons[number] = {"kind": 1, "card_key": f"card{n:08}", "name": f"Zoë Sand-{n}" if n % 97 == 0 else f"Ann Carr {n}" if n % 2 else f"Bo Łuć {n}"}
+        library.titles[number] = f"Ærørikke {n}" if n > 10_000 and n % 7 == 0 else f"Volume {n}"
+    put_in(path, library)
+    parts = Counter()
+    for words in SEARCHED:
+        names = {n: row["name"] for n, row in library.patrons.items()} if words[0] == "find-patrons" else library.titles
+        numbers = walked(path, library, words)
+        check(f"each row that {words} finds", numbers, sorted(n for n, name in names.items() if finds(words[1], name)))
+        parts[len(numbers) > MOST_ROWS, not numbers] += 1
+        above = sorted(names)
+        for after in {0, 1, above[0], above[-1], above[-2], above[-MOST_LOOKED_AT], above[-MOST_LOOKED_AT - 1], above[-MOST_LOOKED_AT - 2], *numbers[:1], *numbers[-MOST_ROWS - 1:-MOST_ROWS + 2], 2**32 - 1}:
+            asked = asked_from(words, str(after))
+            check(f"{asked}", answers(path, "a", asked), (library.handle("a", asked) + "\n", 0))
+    check(f"searches that find more than a hundred rows, and none: {parts}", parts[True, False] > 2 and parts[False, True] > 1, True)
+    least, status = memory_of(["file", path, "a1", "today"], out)
+    check("today in a library of many names", status, 0)
+    for words in SEARCHED:
+        most, status = memory_of(["file", path, "a1", *asked_from(words, "0")], out)
+        check(f"{most - least} KiB for {words}, of {ROOM}", (status, most - least < ROOM), (0, True))
+    the_rows_are(path, library)
+
+
 def main():
     with tempfile.TemporaryDirectory() as folder:
         part(reports, folder)
@@ -258,6 +335,8 @@ def main():
         part(a_line_with_first_days, folder)
         part(a_long_report, folder)
         part(long_lists, folder)
+        part(a_search_of_five_thousand, folder)
+        part(long_searches, folder)
 
 
 if __name__ == "__main__":

@@ -30,7 +30,7 @@ from lib.checking import check, part, run_script
 from lib.messages import UNWRITTEN, message
 from lib.runs import GROUND, HEADER, PROGRAM, circ, rows, whole
 from lib.serving import (
-    ANN, ANNS_PAGE, BO, DESK_KEY, FAILED, HOLD, PAGE_OF_ANN, Serving, a_library, answer, body_of_hold, everything, free_port, hold_with, is_let_go, started, told,
+    ANN, ANNS_PAGE, BO, DESK_KEY, FAILED, HOLD, PAGE_OF_ANN, Serving, a_library, answer, by_patron, everything, free_port, hold_with, is_let_go, started, told,
 )
 from reference.desk_rules import QUESTIONS, Library
 from reference.outer_forms import said
@@ -194,22 +194,25 @@ def grace_days(folder, workers):
 
 
 def of_stories():
-    """What the stories of the desk's questions ask, each as a list: the key, the words and the answer."""
-    stories = [story for story in stories_of(os.path.join(TOP, "tests", "data", "stories", "asking.txt")) if story.is_plain()]
-    return [[(key, words, "\n".join(step.answer)) for step in story.steps for key, words in step.requests()] for story in stories]
+    """What the stories of the desk's questions and of corrections ask, each as a list: the step, the key, the words and the answer. Those of corrections go on after those of what is found."""
+    paths = [os.path.join(TOP, "tests", "data", "stories", name) for name in ("asking.txt", "corrections.txt")]
+    stories = [story for path in paths for story in stories_of(path) if story.is_plain()]
+    return [[(step, key, words, "\n".join(step.answer)) for step in story.steps for key, words in step.requests()] for story in stories]
 
 
 def asking(folder, workers):
-    """The stories of the desk's questions by POST /desk, and by `circ send`: each answer, and each row at the end. A patron's key opens the desk's route to none of them, and no route of patrons has one."""
+    """The stories of the desk's questions and of corrections by POST /desk, and by `circ send`, those of patrons by their routes: each answer, and each row at the end. A patron's key opens the desk's route to none
+    of them, and no route of patrons has one."""
     asked, known = of_stories(), Library()
     for key, words, _ in GROUND:
         known.handle(key, words)
-    check("how much is asked", sum(words[0] in QUESTIONS for story in asked for _, words, _ in story) > 100, True)
-    with_a_card = [(method, target, fields, body, *wanted) for name in QUESTIONS for method, target, fields, body, *wanted in (
-        ("POST", "/desk", {**ANN, "Request-Key": "q1"}, json.dumps([name, *EXAMPLES[name]]).encode(), 403, b'{"refusal":81}'),
-        ("POST", "/desk", {"Desk-Key": "cardkey00001", "Request-Key": "q1"}, json.dumps([name, *EXAMPLES[name]]).encode(), 403, b'{"refusal":81}'),
-        ("POST", f"/patrons/1/{name}", {**ANN, "Request-Key": "q1"}, json.dumps([name, *EXAMPLES[name]]).encode(), 404, b'{"status":404}'),
-        ("POST", "/desk", {"Desk-Key": DESK_KEY}, json.dumps([name, *EXAMPLES[name]]).encode(), 400, b'{"status":400}'))]
+    check("how much is asked", sum(words[0] in QUESTIONS for story in asked for _, _, words, _ in story) > 120, True)
+    check("patrons ask", sum(step.patron is not None for story in asked for step, *_ in story) > 10, True)
+    with_a_card = [(method, target, fields, body, *wanted) for name, parts in EXAMPLES.items() for body in (json.dumps([name, *parts]).encode(),) for method, target, fields, *wanted in (
+        ("POST", "/desk", {**ANN, "Request-Key": "q1"}, 403, b'{"refusal":81}'),
+        ("POST", "/desk", {"Desk-Key": "cardkey00001", "Request-Key": "q1"}, 403, b'{"refusal":81}'),
+        ("POST", f"/patrons/1/{name}", {**ANN, "Request-Key": "q1"}, 404, b'{"status":404}'),
+        ("POST", "/desk", {"Desk-Key": DESK_KEY}, 400, b'{"status":400}'))]
     for at, story in enumerate(asked):
         for way in ("posted", "sent"):
             path, library = os.path.join(folder, f"asking-{at}-{way}.db"), copy.deepcopy(known)
@@ -218,31 +221,41 @@ def asking(folder, workers):
             with Serving(path, len(first) + len(story), workers=workers) as serving:
                 for it in first:
                     serving.answers(*it)
-                for key, words, line in story:
+                for step, key, words, line in story:
                     status, body = (400, b'{"status":400}') if line == "words not understood" else told(line)
+                    if step.patron is not None:
+                        serving.answers(*by_patron(step.patron, step.card_key, key, words), status, body)
+                        continue
                     if way == "posted":
                         serving.answers("POST", "/desk", {"Desk-Key": DESK_KEY, "Request-Key": key}, json.dumps(words).encode(), status, body)
                         continue
                     run = subprocess.run([PROGRAM, "send", str(serving.port), DESK_KEY, key, *words], capture_output=True, timeout=60)
                     answer = body.decode() + "\n"
                     check(f"{key} {words}", (run.stdout.decode(), run.stderr, run.returncode), (answer, message(["send", str(serving.port), DESK_KEY, key, *words], answer), {200: 0, 400: 4}.get(status, 2)))
-            for key, words, line in story:
+            for step, key, words, line in story:
                 if line != "words not understood":
-                    check(f"{key} {words} by the rules", library.handle(key, words), line)
+                    check(f"{key} {words} by the rules", step.by_rules(library, key, words), line)
             runs.the_rows_are(path, library)
 
 
-# The parts of each question, of the small library.
-EXAMPLES = {name: ["10"] if name == "copy" else ["2026-03-02"] if name == "till" else ["0"] if name == "debts" else ["100" if name in ("copies", "queue") else "1", "0"] for name in QUESTIONS}
+# The parts of each question and of each correction, of the small library.
+EXAMPLES = {
+    "copy": ["10"], "copies": ["100", "0"], "queue": ["100", "0"], "account": ["1", "0"], "debts": ["0"], "overdue": ["1", "0"], "shelf": ["1", "0"], "pulls": ["1", "0"], "transits": ["1", "0"],
+    "till": ["2026-03-02"], "today": [], "borrower": ["1"], "find-patrons": ["0", "ann"], "find-titles": ["0", "salt"], "card-key": ["1", "newkey000001"], "amend-patron": ["1", "1", "Ann"],
+    "amend-branch": ["1", "5", "Main"], "amend-title": ["100", "Mine"], "amend-copy": ["10", "1", "0"], "rehome": ["10", "2"],
+}
 
 # What is asked at random, of few copies, holds and loans, which get in each other's way. Letters stand for a patron, a copy, a branch, a title, a hold, a loan, a day to come, a number of days, a
-# number from which a list goes on, and today.
+# number from which a list goes on, today, a kind, a name, a card key, and a text to be searched.
 AT_RANDOM = ["check-out P C B", "check-out P C B", "check-out P C B", "check-in C B", "check-in C B", "check-in C B", "check-in C B", "place-hold P T B", "place-hold-from P T B D",
-             "place-hold-from P T B D", "cancel-hold H", "renew L", "unshelve H", "unshelve-cancelled H", "missing C", "begin-day D", "grace 1 1 G"]
-ASKED_AT_RANDOM = ["copy C", "copy C", "copies T A", "queue T A", "queue T A", "account P A", "debts A", "overdue B A", "shelf B A", "pulls B A", "pulls B A", "transits B A", "till N"]
-BEFORE = ["kind 1 9 9 1000000", "acquire 21 200 1 1 1200 'Salt Roads'", "acquire 22 200 1 2 1200 'Salt Roads'", "acquire 31 300 2 2 800 'Night Ferries'"]
+             "place-hold-from P T B D", "cancel-hold H", "renew L", "unshelve H", "unshelve-cancelled H", "missing C", "begin-day D", "grace 1 1 G", "card-key P Y", "amend-patron P K X", "amend-branch B G X", "amend-title T X", "amend-copy C K 900", "rehome C B"]
+ASKED_AT_RANDOM = ["today", "borrower P", "find-patrons A F", "find-patrons 0 F", "find-titles A F", "copy C", "copy C", "copies T A", "queue T A", "queue T A", "account P A", "debts A", "overdue B A", "shelf B A", "pulls B A", "pulls B A", "transits B A", "till N"]
+BEFORE = ["kind 1 9 9 1000000", "kind 2 4 4 1000000", "rule 2 1 9 2 10 50", "acquire 21 200 1 1 1200 'Salt Roads'", "acquire 22 200 1 2 1200 'Salt Roads'", "acquire 31 300 2 2 800 'Night Ferries'"]
 BY_PATRONS = ("place-hold", "place-hold-from", "cancel-hold", "renew")
-TURNS = 1_200
+NAMES = ["Ann Bell", "Zoë Ærø-Sand", "Åsa Łuć", "Rivers of the North", "7"]
+KEYS = ["cardkey00001", "cardkey00002", "cardkey00003", "newkey000001", "newkey000002"]
+SOUGHT = ["n", "BELL an", "asa", "ŁUĆ sa", "zoe aro", "ri th", "7", "s  r"]
+TURNS = 1_500
 # What holds with a first day have to meet in these turns: what the state of one was before a request, and after it.
 SHOWN = Counter()  # how often each question was shown rows
 MET = {("waiting", "coming"), ("waiting", "ready"), ("waiting", "cancelled"), ("coming", "ready"), ("ready", "filled"), ("ready", "waiting"), ("ready", "cancelled")}
@@ -262,9 +275,13 @@ class Turns:
         if late and self.draw.random() < 0.5:
             words = ["overdue", str(self.draw.choice(late)), "0"]
         line = self.library.handle("", words)
-        heads = {"copies": 1, "queue": 1, "account": 1, "overdue": 1, "shelf": 1}.get(words[0], 0)
+        heads = {"copies": 1, "queue": 1, "account": 1, "overdue": 1, "shelf": 1, "today": -1}.get(words[0], 0)
         self.shown[words[0]] += line.count("\n") > heads
         return words, line
+
+    def card_key(self, patron):
+        """A card key for a patron to show: mostly the patron's, now and then another, which may have been."""
+        return self.draw.choice(KEYS) if self.draw.random() < 0.1 else self.library.patrons[patron]["card_key"]
 
     def words(self, forms=AT_RANDOM):
         """The next request of the desk."""
@@ -272,7 +289,7 @@ class Turns:
         active = [number for number, hold in library.holds.items() if hold["state"] in ("waiting", "ready")]
         values = {"P": draw.choice("123"), "C": draw.choice(sorted(map(str, library.copies))), "B": draw.choice("12"), "T": draw.choice(("100", "200", "300")),
                   "H": str(draw.choice(active or [1])), "L": str(draw.randint(1, len(library.loans) + 1)), "D": str(library.today + datetime.timedelta(draw.choice((1, 1, 2, 3, 9)))), "G": draw.choice("01239"),
-                  "A": draw.choice(("0", "0", "0", "1", "5", "10", "20")), "N": str(library.today)}
+                  "A": draw.choice(("0", "0", "0", "1", "5", "10", "20")), "N": str(library.today), "K": draw.choice("11229"), "X": draw.choice(NAMES), "Y": draw.choice(KEYS), "F": draw.choice(SOUGHT)}
         return [values.get(it, it) for it in draw.choice(forms).split()]
 
     def states(self):
@@ -306,16 +323,13 @@ def at_random(folder, workers):
             words, number = shlex.split(BEFORE[at]) if at < 0 else turns.words(), draw.choice("123")
             is_own = words[0] in BY_PATRONS and draw.random() < 0.5
             patron = int(words[1] if words[0].startswith("place") else number) if is_own else None
-            shown, key = f"cardkey{patron:05}" if is_own else DESK_KEY, f"t{at}"
+            shown, key = turns.card_key(patron) if is_own else DESK_KEY, f"t{at}"
             wanted = told(turns.handle(patron, shown, key, words))
-            if is_own:
-                target = {"renew": f"loans/{words[1]}/renew", "cancel-hold": f"holds/{words[1]}/cancel"}.get(words[0], "holds")
-                found = serving.ask("POST", f"/patrons/{patron}/{target}", {"Card-Key": shown, "Request-Key": key}, body_of_hold(words) if target == "holds" else None)[:2]
-            else:
-                found = serving.desk(key, words)
+            found = serving.ask(*by_patron(patron, shown, key, words))[:2] if is_own else serving.desk(key, words)
             check(f"turn {at} by the seed {seed}: {words} of {patron or 'the desk'}", found, wanted)
-            page = serving.ask("GET", f"/patrons/{number}", {"Card-Key": f"cardkey{number:0>5}"})[:2]
-            check(f"the page of {number} after turn {at} by the seed {seed}", page, told(turns.library.handle("", ["page", number])))
+            shown = turns.card_key(int(number))
+            page = serving.ask(*by_patron(int(number), shown, "", ["page", number]))[:2]
+            check(f"the page of {number} after turn {at} by the seed {seed}", page, told(said(turns.library, DESK_KEY, int(number), shown, "", ["page", number])))
             question, line = turns.question()
             # a question passes over the key of the request before it
             check(f"{question} after turn {at} by the seed {seed}", serving.desk(key, question), told(line))
