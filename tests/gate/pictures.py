@@ -33,7 +33,7 @@ DESCRIPTION = ".//{http://purl.org/dc/elements/1.1/}description"
 GROUND = """begin-day 2026-03-02;branch 1 5 Main;branch 2 0 Harbour;kind 1 9 9 1000000;rule 1 1 6 9 20 100;patron 1 1 cardkey00001 Ann;patron 2 1 cardkey00002 Bo;
 acquire 10 100 1 1 2500 Rivers;acquire 11 100 1 2 2500 Rivers;acquire 20 200 1 2 1200 Roads"""
 COMMANDS = ["check-out P C B", "check-in C B", "check-in C B", "check-in C B", "place-hold P T B", "place-hold P T B", "place-hold-from P T B D",
-            "cancel-hold H", "unshelve H", "unshelve-cancelled H", "missing C", "withdraw C", "begin-day D", "pay P 100"]
+            "cancel-hold H", "unshelve H", "unshelve-cancelled H", "missing C", "withdraw C", "begin-day D", "pay P 100", "rehome C B"]
 PLACES = {"Shelf": "on the shelf at home", "OnLoan": "on loan", "HoldShelf": "on the hold shelf", "ForHold": "in transit for a hold",
           "ForNone": "in transit for none", "Missing": "missing", "Withdrawn": "withdrawn"}
 
