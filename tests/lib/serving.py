@@ -81,7 +81,7 @@ class Serving:
                 fault = re.search(r"^fault (\d+)$", self.after, re.M)
                 said = message(self.words, self.after, made=self.made, closed=int(fault[1]) if fault else None)
                 check("what it printed", (out.decode(), err, self.run.returncode), (self.after, said, self.status))
-                check("keys in answers", [key for key in (DESK_KEY, "cardkey") if key.encode() in b"\n".join(self.heard)], [])
+                check("keys in answers", [key for key in (DESK_KEY, "cardkey", "newkey") if key.encode() in b"\n".join(self.heard)], [])
         finally:
             self.end()
 
