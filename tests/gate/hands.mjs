@@ -426,6 +426,19 @@ it.work.nextPatron();
 it.work.scan("check-out", "2");
 await until(() => isQuiet(it));
 is(it.receipts.at(-1), [`Bo Carr, ${dayOf}, branch 1`]);
+// ---- after a correction the page of the patron at the desk is asked for if it may show another title or name, and a copy is looked at; a new card key is told nowhere
+sent = network(turns([reply("ok")], { "page 1": ann }));
+it = desk();
+it.work.scan("check-out", "1");
+for (const words of [["amend-title", "100", "Rivers"], ["amend-title", "400", "Bees"], ["amend-title", "300", "Maps"], ["amend-patron", "1", "1", "Ann Özil"], ["card-key", "1", "newkey000001"], ["amend-patron", "2", "1", "Bo"],
+  ["card-key", "2", "newkey000002"], ["amend-branch", "1", "5", "Main"], ["amend-copy", "10", "1", "900"], ["rehome", "10", "2"]]) {
+  it.work.words(words);
+}
+await until(() => isQuiet(it));
+is(bodies(sent), ["page 1", "amend-title 100 Rivers", "page 1", "amend-title 400 Bees", "page 1", "amend-title 300 Maps", "amend-patron 1 1 Ann Özil", "page 1", "card-key 1 newkey000001", "page 1", "amend-patron 2 1 Bo",
+  "card-key 2 newkey000002", "amend-branch 1 5 Main", "amend-copy 10 1 900", "copy 10", "rehome 10 2", "copy 10"]);
+is(it.noted.filter((text) => /^card-key|^rehome/.test(text)), ["card-key 1 …: Done. For Ann Bell.", "card-key 2 …: Done.", "rehome 10 2: Any: Done. On the shelf, branch 1."]);
+is(JSON.stringify([it.receipts, it.noted, it.told, ...it.storage.all]).includes("newkey"), false);
 // where the page doesn't come, what was lent stands on it all the same, and it is told
 sent = network(turns([reply("loan 1 due 2026-03-09")], { "page 1": page(1, "Ann Bell") }));
 it = desk();

@@ -5,7 +5,7 @@ import { readAnswer, readReply, readPage } from "../../pages/replies.js";
 import { daysBetween, today } from "../../pages/days.js";
 import { centsOf, commandBegun, holdBody, isCommand, isKey, isNumber, wordsOf } from "../../pages/commands.js";
 import { Door, newKey } from "../../pages/asking.js";
-import { pageLines, whereIs } from "../../pages/saying.js";
+import { pageLines, said, saidFully, whereIs, withoutCardKey } from "../../pages/saying.js";
 import { tableOf, wordsOfQuestion } from "../../pages/tables.js";
 import { TEXTS, amount, branchName, say } from "../../pages/texts.js";
 import { Kept, network } from "../lib/network.mjs";
@@ -77,12 +77,20 @@ const asked = [
   "hold 1 copy 11 title 100 Rivers of the North\nend",
   "copy 11 for 1 title 100 Rivers of the North\nend",
   "till 2026-03-17\nfines                100\nprices                 0\npayments              30\nwaivers                0",
+  "patron 4 owed 0 name Åsa Ångström-Łuć\nafter 4",
+  "title 400 2 × 2 Œuvres\nend",
+  "after 24996",
   "end",
 ];
 for (const text of asked) is(readReply(text), { kind: "shown", lines: text.split("\n") });
 is(readReply("patron 1 owed 0 name Ann Bell").kind, "page");
+is(readReply("today 2026-03-02"), { kind: "day", day: "2026-03-02" });
+is(readReply("patron 1 owed 20 name Ann Özil\nkind 2"), { kind: "borrower", patron: 1, owed: 20, name: "Ann Özil", patronKind: 2 });
+is([readReply("today 2026-03-02"), readReply("patron 1 owed 20 name Ann Özil\nkind 2")].map((reply) => said(reply)), ["Today is 2026-03-02.", "Patron 1, Ann Özil: kind 2, owes 0.20."]);
 is(isCommand(wordsOf("pulls 1 0")), true);
 is(isCommand(wordsOf("pulls 1")), false);
+is(["today", "borrower 1", "find-patrons 0 'bell an'", "card-key 1 newkey000001", "amend-title 100 Rivers"].map((line) => isCommand(wordsOf(line))), Array(5).fill(true));
+is(["today 1", "borrower", "find-patrons 0 bell an", "find-titles 0", "card-key 1"].map((line) => isCommand(wordsOf(line))), Array(5).fill(false));
 is(["copy 1", "copies 1", "cop"].map(commandBegun), ["copy", "copies", null]);
 
 // ---- a copy, and each place that it may have
@@ -114,6 +122,11 @@ is(rows("shelf", "      hold    copy  patron until      title\n2147483647 999999
 is(rows("overdue", "      loan  patron    copy due         late title\n         1       1      10 2026-03-09     7 Rivers of the North\n         2       2      20 2026-03-09     0 Salt Roads\nend"), [
   { loan: 1, patron: 1, copy: 10, due: "2026-03-09", late: 7, text: "Rivers of the North" }, { loan: 2, patron: 2, copy: 20, due: "2026-03-09", late: 0, text: "Salt Roads" }]);
 is(rows("debts", "patron 2 owed 1300 name Bo Carr\nend"), [{ patron: 2, owed: 1300, name: "Bo Carr" }]);
+is(readList("find-patrons", "patron 1001 owed 0 name Zoë Sand\npatron 1002 owed 5 name Zoë Sand\nafter 1100"),
+  { head: null, rows: [{ patron: 1001, owed: 0, name: "Zoë Sand" }, { patron: 1002, owed: 5, name: "Zoë Sand" }], after: 1100 });
+is(readList("find-titles", "title 400 2 × 2 Œuvres\nend"), { head: null, rows: [{ title: 400, text: "2 × 2 Œuvres" }], after: null });
+// a search may go on where it has found nothing yet
+is(["find-patrons", "find-titles"].map((question) => readList(question, "after 24996")), Array(2).fill({ head: null, rows: [], after: 24996 }));
 is(readList("account", "patron 1 owed 40 name Ann Bell\nline 1 2026-03-17 fine 100 loan 1 title 100 Rivers of the North\nline 2 2026-03-17 payment 60\nline 3 2026-03-17 waiver 5\nline 4 2026-03-18 price 5 loan 2 title 200 A\nend"), {
   head: { patron: 1, owed: 40, name: "Ann Bell" },
   rows: [
@@ -135,7 +148,8 @@ is(rows("copies", "title 100 Rivers of the North\ncopy 10 loan 1 due 2026-03-09\
 is(readList("till", "till 2026-03-17\nfines                200\nprices              1200\npayments            1360\nwaivers               40"), {
   head: { day: "2026-03-17" }, rows: [{ sort: "fines", amount: 200 }, { sort: "prices", amount: 1200 }, { sort: "payments", amount: 1360 }, { sort: "waivers", amount: 40 }], after: null });
 for (const [question, text] of [["pulls", ""], ["pulls", "hold 2 copy 11 title 100 Rivers"], ["pulls", "copy 11 title 100 R\nend"], ["shelf", "end"], ["shelf", "      loan  patron    copy due         late title\nend"],
-  ["queue", "end"], ["copies", "title 1 A\ncopy 10 nowhere\nend"], ["account", "end"], ["till", "till 2026-03-17\nfines 1"], ["debts", "after"], ["transits", "title 1 A\nend"]]) {
+  ["queue", "end"], ["copies", "title 1 A\ncopy 10 nowhere\nend"], ["account", "end"], ["till", "till 2026-03-17\nfines 1"], ["debts", "after"], ["transits", "title 1 A\nend"], ["find-patrons", "title 1 A\nend"],
+  ["find-titles", "patron 1 owed 0 name A\nend"], ["find-titles", "title 1 A"]]) {
   is(readList(question, text), null);
 }
 
@@ -148,6 +162,9 @@ is(table("overdue", "      loan  patron    copy due         late title\n        
   { head: "Overdue", columns: ["Loan", "Patron", "Copy", "Due", "Days late", "Title"], rows: [["1", "3", "10", "2026-03-09", "7", "Rivers of the North"]] });
 is(table("transits", "copy 20 for 1 title 200 Salt Roads\ncopy 21 title 300 Maps\nend").rows, [["20", "Salt Roads", "1"], ["21", "Maps", ""]]);
 is(table("debts", "patron 2 owed 1300 name Bo Carr\nend"), { head: "Who owes", columns: ["Patron", "Name", "Owes"], rows: [["2", "Bo Carr", "13.00"]] });
+const found = (question, text) => tableOf(question, { ...readList(question, text), head: { sought: "zoe" } });
+is(found("find-patrons", "patron 1001 owed 5 name Zoë Sand\nend"), { head: "Patrons found by zoe", columns: ["Patron", "Name", "Owes"], rows: [["1001", "Zoë Sand", "0.05"]] });
+is(found("find-titles", "title 300 Zoë\nafter 300"), { head: "Titles found by zoe", columns: ["Title number", "Title"], rows: [["300", "Zoë"]] });
 is(table("account", "patron 1 owed 40 name Ann Bell\nline 1 2026-03-17 fine 100 loan 1 title 100 Rivers of the North\nline 2 2026-03-17 payment 60\nend"), {
   head: "Account of Ann Bell, patron 1: owes 0.40", columns: ["Line", "Day", "What", "Amount", "Title"],
   rows: [["1", "2026-03-17", "fine", "1.00", "Rivers of the North"], ["2", "2026-03-17", "payment", "0.60", ""]],
@@ -164,6 +181,11 @@ is(places7.map(([text]) => whereIs(readCopy(`copy 10 home 1 kind 2 price 2500 ti
   "In transit to branch 1, for Bo Carr, hold 3.", "In transit to branch 1.", "Loan 1 of Ann Bell, due on 2026-03-09.", "Missing.", "Withdrawn."]);
 is(["pulls", "overdue"].map((question) => wordsOfQuestion(question, 1, 100)), [["pulls", 1, 100], ["overdue", 1, 100]]);
 is([wordsOfQuestion("copy", 10, 0), wordsOfQuestion("till", "2026-03-17", 0), wordsOfQuestion("debts", 1, 7), wordsOfQuestion("account", 3, 5)], [["copy", 10], ["till", "2026-03-17"], ["debts", 7], ["account", 3, 5]]);
+is(["find-patrons", "find-titles"].map((question) => wordsOfQuestion(question, "bell an", 1100)), [["find-patrons", 1100, "bell an"], ["find-titles", 1100, "bell an"]]);
+
+// ---- what is shown of words, and of a copy that has another home
+is([["card-key", "1", "newkey000001"], ["patron", "4", "1", "cardkey00004", "Di"], ["amend-patron", "4", "1", "Di"]].map(withoutCardKey), [["card-key", "1", ""], ["patron", "4", "1", "", "Di"], ["amend-patron", "4", "1", "Di"]]);
+is(saidFully(["rehome", "10", "2"], readReply("ok"), { copy: readCopy("copy 10 home 2 kind 1 price 2500 title 100 Rivers\ntransit 2") }), "Rivers: Done. In transit to branch 2.");
 
 // ---- a patron's page as the desk shows it
 is(pageLines(readPage(page.join("\n")), { 3: "2026-03-07" }), [
@@ -175,7 +197,7 @@ is(pageLines(readPage(page.join("\n")), { 3: "2026-03-07" }), [
 is(pageLines(readPage(page.join("\n")), {}).at(-1), "Winter Bees, hold 3, ready at branch 2");
 
 // ---- what is none
-for (const text of ["", "ended", "an end", "after 3", "title 100 A\nafter", "copy 10 home 1", "till 2026-03-17", "okay", "ok\n", "loan 01 due 2026-03-09", "loan 1 due 2026-3-9", "hold", "fine 0 nowhere 1", "fine 0", "transit 1 for", "page",
+for (const text of ["", "ended", "an end", "after", "after 3\nend of it", "today", "today 2026-3-2", "patron 1 owed 20 name Ann\nkind", "title 100 A\nafter", "copy 10 home 1", "till 2026-03-17", "okay", "ok\n", "loan 01 due 2026-03-09", "loan 1 due 2026-3-9", "hold", "fine 0 nowhere 1", "fine 0", "transit 1 for", "page",
   "patron 1 owed 0 name", "patron 1 owed 0 name A\nloan 1", "patron 1 owed 0 name A\n", "refused 10"]) {
   is(readReply(text), null);
 }
