@@ -27,7 +27,7 @@ from lib import runs
 from lib.checking import check, part, run_script
 from lib.messages import DAMAGED_ROW, LATER, MEANINGS, OLDER, SCHEMA, as_it_is, is_held, message
 from lib.runs import CIRC, GROUND, HEADER, PROGRAM, ROOM, answers, circ, digest, kill_at_work, memory_of, month, rows, say, status_of, the_rows_are, timed, whole, write
-from lib.serving import DESK_KEY, Serving, body_of_hold, told
+from lib.serving import DESK_KEY, Serving, by_patron, told
 from reference.desk_rules import Library
 
 NEW, HOLDS, MONTH = ([f"schema{schema}_{it}" for schema in (1, 2)] for it in ("new", "holds", "month"))
@@ -193,9 +193,7 @@ def old_libraries(folder):
 
 def by_route(serving, patron, key, words):
     """What a patron is answered by the route for these words."""
-    last = {"renew": f"loans/{words[-1]}/renew", "cancel-hold": f"holds/{words[-1]}/cancel"}.get(words[0], "holds")
-    body = body_of_hold(words) if last == "holds" else None
-    return serving.ask("POST", f"/patrons/{patron}/{last}", {"Card-Key": f"cardkey{patron:05}", "Request-Key": key}, body)[:2]
+    return serving.ask(*by_patron(patron, f"cardkey{patron:05}", key, words))[:2]
 
 
 def the_rest_of_the_month(folder, name):
