@@ -76,9 +76,11 @@ adds-then A B C x y z apart joined first next = record {
     early : (p : ℕ) → IsAmong x p ⊎ A p → IsAmong x p ⊎ C p
     early p (inl old) = inl old
     early p (inr is) = inr (joined p (inl is))
+
     go : (p : ℕ) → IsAmong y p ⊎ B p → IsAmong x p ⊎ C p
     go p (inl mid) = early p (first.only p mid)
     go p (inr is) = inr (joined p (inr is))
+
     from : (p : ℕ) → A p ⊎ B p → IsAmong z p
     from p (inl is) = next.kept p (first.all p is)
     from p (inr is) = next.all p is
@@ -105,10 +107,10 @@ module _ (H : History) (inv : Invariant H) where
     all = λ p has.
         let l = has.0 in
         let r = has.1 in
-        let at = has.2.0 in
-        let number : q.loan ≡ l = one-loan q.loan l q r is.0 at (is.1 ∙ sym has.2.1.0) is.2 has.2.1.1.0 in
+        let at = has.2 in
+        let number : q.loan ≡ l = one-loan q.loan l q r is.0 at (is.1 ∙ sym has.3) is.2 has.4 in
         let row : q ≡ r = some-same q r (sym is.0 ∙ ap (picture H).loans number ∙ at) in
-        among-last old (q.patron ∷ []) p (among-one q.patron p (ap (λ (x : LoanRow). x.patron) row ∙ has.2.1.1.1));
+        among-last old (q.patron ∷ []) p (among-one q.patron p (ap (λ (x : LoanRow). x.patron) row ∙ has.5));
   }
     where
       go : (p : ℕ) → IsAmong old p ⊎ IsAmong (q.patron ∷ []) p → IsAmong old p ⊎ HasLoanOf H copy p
@@ -117,7 +119,7 @@ module _ (H : History) (inv : Invariant H) where
   borrower-added copy None old is = record {
     only = λ p among. go p (among-either old [] p among);
     kept = λ p among. among-first old [] p among;
-    all = λ p has. absurd (is has.0 has.1 has.2.0 has.2.1.0 has.2.1.1.0);
+    all = λ p has. absurd (is has.0 has.1 has.2 has.3 has.4);
   }
     where
       go : (p : ℕ) → IsAmong old p ⊎ IsAmong [] p → IsAmong old p ⊎ HasLoanOf H copy p
@@ -169,11 +171,12 @@ holder-among (y ∷ rows) r (suc k, lt, is) =
 
 among-holder : (rows : List HoldRow) (p : ℕ) → IsAmong (map (λ x. x.patron) rows) p → (r : HoldRow) × Contains rows r × (r.patron ≡ p)
 among-holder [] p e = among-none p e
-among-holder (y ∷ rows) p e = go (or-either (y.patron == p) (list_any (λ q. q == p) (map (λ x. x.patron) rows)) e)
+among-holder (y ∷ rows) p e = go (λ later. among-holder rows p later) (or-either (y.patron == p) (list_any (λ q. q == p) (map (λ x. x.patron) rows)) e)
   where
-    go : ((y.patron == p) ≡ true) ⊎ IsAmong (map (λ x. x.patron) rows) p → (r : HoldRow) × Contains (y ∷ rows) r × (r.patron ≡ p)
-    go (inl here) = (y, (0, omega arith, refl), eqb-true y.patron p here)
-    go (inr later) = let more = among-holder rows p later in (more.0, (suc more.1.0, omega (arith, more.1.1), more.1.2), more.2)
+    go : (IsAmong (map (λ x. x.patron) rows) p → (r : HoldRow) × Contains rows r × (r.patron ≡ p))
+        → ((y.patron == p) ≡ true) ⊎ IsAmong (map (λ x. x.patron) rows) p → (r : HoldRow) × Contains (y ∷ rows) r × (r.patron ≡ p)
+    go more (inl here) = (y, (0, omega arith, refl), eqb-true y.patron p here)
+    go more (inr later) = let found = more later in (found.0, (suc found.1.0, omega (arith, found.1.1), found.1.2), found.2)
 
 -- ---- readers
 
@@ -200,31 +203,31 @@ readers-are H title copies holds borrowers readers of_title adds on_title is = r
     lent p (inl none) = among-none p none
     lent p (inr has) =
         let found = loan-in H p copies has in
-        let c = found.0 in
+        let c : CopyRow = found.0 in
         let row = of_title.sound c found.1 in
-        let loan = found.2 in
-        inl (loan.0, loan.1, c, loan.2.0, loan.2.1.1.0, ap (picture H).copies loan.2.1.0 ∙ row.0, row.1, loan.2.1.1.1)
+        let loan : HasLoanOf H c.copy p = found.2 in
+        inl (loan.0, loan.1, c, loan.2, loan.4, ap (picture H).copies loan.3 ∙ row.0, row.1, loan.5)
+
     from : (p : ℕ) → IsAmong borrowers p ⊎ IsAmong (map (λ r. r.patron) holds) p → IsReader H title p
     from p (inl borrows) = lent p (adds.only p borrows)
     from p (inr waits) =
         let found = among-holder holds p waits in
-        let r = found.0 in
+        let r : HoldRow = found.0 in
         let row = on_title.sound r found.1 in
         inr (r.hold, r, row.0, as-active r.state row.1.1, row.1.0, found.2)
+
     to : (p : ℕ) → IsReader H title p → IsAmong (borrowers ++ map (λ r. r.patron) holds) p
     to p (inl has) =
-        let r = has.1 in
-        let c = has.2.0 in
-        let at = has.2.1.1.1.0 in
-        let number : c.copy ≡ r.copy = copy-number H r.copy c at in
+        let r : LoanRow = has.1 in
+        let c : CopyRow = has.2 in
+        let number : c.copy ≡ r.copy = copy-number H r.copy c has.5 in
         among-first borrowers (map (λ x. x.patron) holds) p
-        (adds.all p (loan-at H p copies c (of_title.whole r.copy c at has.2.1.1.1.1.0)
-        (has.0, r, has.2.1.0, sym number, has.2.1.1.0, has.2.1.1.1.1.1)))
+        (adds.all p (loan-at H p copies c (of_title.whole r.copy c has.5 has.6) (has.0, r, has.3, sym number, has.4, has.7)))
     to p (inr has) =
-        let r = has.1 in
+        let r : HoldRow = has.1 in
         among-last borrowers (map (λ x. x.patron) holds) p
-        (subst (λ (q : ℕ). IsAmong (map (λ x. x.patron) holds) q) has.2.1.1.1
-        (holder-among holds r (on_title.whole has.0 r has.2.0 (has.2.1.1.0, active-as r.state has.2.1.0))))
+        (subst (λ (q : ℕ). IsAmong (map (λ x. x.patron) holds) q) has.5
+        (holder-among holds r (on_title.whole has.0 r has.2 (has.4, active-as r.state has.3))))
 
 -- No other command has readers.
 pub no-readers : (H : History) (c : Command) → ((t : ℕ) (x : List ℕ) → c ≡ AmendTitle t x → ⊥) → AreExactly (IsReaderFor H c) []

@@ -29,12 +29,12 @@ is-touched H command view decision is_view decided readers are touched is p amon
     go (inr put) = inr (view, decision, is_view, decided, put)
 
 -- The same after a look at the tables.
-pub named-after : {S A : Type 0} {g : Ghosts S} {a b c : Held S} {If Given Needs : History → Type 0} {Is : History → A → Type 0} {x : A}
-    {command : Command} {touched : List ℕ} (r : Result Reply Fault)
+pub named-after : {S A : Type 0} {g : Ghosts S} {a b : Held S} {If Given Needs : History → Type 0} {Is : History → A → Type 0} {x : A}
+    (c : Held S) (command : Command) (touched : List ℕ) (r : Result Reply Fault)
     → LearnsIf If Is g a b (Ok x) → (IsClean g c → IsClean g b) → NamesIf Needs command touched g b c r
     → ((H : History) → IsAnyList H → Given H → If H) → ((H : History) → IsLegal H → Is H x → Given H → Needs H) → NamesIf Given command touched g a c r
-named-after (Ok y) learnt clean named needs then =
+named-after c command touched (Ok y) learnt clean named needs then =
     λ disk H shows given.
     let before = clean disk in
     named disk H (learnt.looks.stays before H shows) (then H shows.legal (learnt.shown before H shows (needs H (shows.legal, shows.forms) given)) given)
-named-after (Err e) learnt clean named needs then = λ disk. tt
+named-after c command touched (Err e) learnt clean named needs then = λ disk. tt

@@ -30,4 +30,4 @@ returns g c =
     gives (copies ⨾ c.in_ok-add_borrowers.ensures ⨾ holds) (λ _ _ _. (tt, λ _. (tt, λ _. tt)))
     (λ H legal _ is.
     readers-are H c.args.title c.in_ok-copies.copies.items c.in_ok-holds.holds.items c.add_borrowers.new.readers c.add_holders.new.readers is.0
-    (rw (c.deref.ensures.value, c.none.ensures) at is.1.0) is.1.1 (rw c.deref-2.ensures.value at c.in_ok-add_holders.ensures))
+    (rw (c.deref.ensures.value, c.none-readers.ensures) at is.1.0) is.1.1 (rw c.deref-2.ensures.value at c.in_ok-add_holders.ensures))
