@@ -4,8 +4,10 @@
 Expected answers are those of docs/RULES.md, worked out by hand; those of the month's commands come from `desk_rules`.
 """
 
+import contextlib
 import copy
 import datetime
+import errno
 import json
 import os
 import pty
@@ -28,7 +30,7 @@ from room import TOP
 from lib import runs
 from lib.checking import check, part, run_script
 from lib.messages import UNWRITTEN, message
-from lib.runs import GROUND, HEADER, PROGRAM, circ, rows, whole
+from lib.runs import GROUND, HEADER, PROGRAM, circ, digest, rows, whole
 from lib.serving import (
     ANN, ANNS_PAGE, BO, DESK_KEY, FAILED, HOLD, PAGE_OF_ANN, Serving, a_library, answer, by_patron, everything, free_port, hold_with, is_let_go, started, told,
 )
@@ -676,6 +678,53 @@ def no_network(folder):
         thread.join()
 
 
+def other_addresses():
+    """Addresses of this machine besides the one that is served: another of its loopback, and those by which it goes to others, which it needn't have. Nothing is sent."""
+    found = [(socket.AF_INET, "127.0.0.2"), (socket.AF_INET6, "::1")]
+    for family, outside in ((socket.AF_INET, "192.0.2.1"), (socket.AF_INET6, "2001:db8::1")):
+        with contextlib.suppress(OSError), socket.socket(family, socket.SOCK_DGRAM) as way:
+            way.connect((outside, 9))
+            found.append((family, way.getsockname()[0]))
+    return found
+
+
+def this_machine_alone(folder):
+    """Who asks for 127.0.0.1 is served; at any other address of this machine nobody listens."""
+    path, others = a_library(folder, "alone.db"), other_addresses()
+    with Serving(path, 2) as serving:
+        serving.answers("GET", "/patrons/1", ANN, None, 200, ANNS_PAGE)
+        for family, address in others:
+            with socket.socket(family) as peer:
+                peer.settimeout(60)
+                # 99 is an address that this machine hasn't
+                check(f"a connection to {address}", peer.connect_ex((address, serving.port)) in (errno.ECONNREFUSED, errno.EADDRNOTAVAIL), True)
+        serving.answers("GET", "/patrons/1", ANN, None, 200, ANNS_PAGE)
+    check("127.0.0.2 was tried", others[0][1], "127.0.0.2")
+    print(f"web: nobody listened at {len(others)} other addresses of this machine")
+
+
+def one_program_at_a_time(folder):
+    """While a program serves a library, every other run on its file, or on a link to it, tries for two seconds and is told 91. The two files stay as they are, and the program serves on."""
+    path, link, copies = a_library(folder, "one.db"), os.path.join(folder, "link.db"), os.path.join(folder, "one.csv")
+    os.symlink(path, link)
+    with open(copies, "w", encoding="utf-8") as file:
+        file.write(HEADER + "50,500,Maps,1,1,1500,end\n")
+    others = [["file", path, "x1", "begin-day", "2026-03-03"], ["file", link, "x1", "begin-day", "2026-03-03"], ["import", path, copies], ["report", path, "shelf", "1"],
+              ["audit", path], ["migrate", path], ["serve", path, str(free_port()), "1", "1", DESK_KEY]]
+    with Serving(path, 2) as serving:
+        serving.answers("GET", "/patrons/1", ANN, None, 200, ANNS_PAGE)
+        before, began = [digest(path + tail) for tail in ("", "-wal")], time.monotonic()
+        tried = [subprocess.Popen([PROGRAM, *words], stdout=subprocess.PIPE, stderr=subprocess.PIPE) for words in others]
+        for words, run in zip(others, tried):
+            out, err = run.communicate(timeout=120)
+            check(f"{words} beside a program that serves", (out, run.returncode, err), (b"fault 91\n", 3, message(words, "fault 91\n", held=True)))
+            check(f"how long {words} tried", time.monotonic() - began >= 2, True)
+        check("the two files stay", [digest(path + tail) for tail in ("", "-wal")], before)
+        serving.answers("POST", "/desk", {"Desk-Key": DESK_KEY, "Request-Key": "x2"}, b'["begin-day","2026-03-04"]', 200, b'{"reply":"ok"}')
+    check("the file is free again", circ(["file", path, "x1", "begin-day", "2026-03-05"]), ("ok", 0))
+    print(f"web: {len(tried)} runs were told that another process has the file")
+
+
 DATA_PIECES = 152  # where the system's account of a connection has how many pieces with data it got
 
 
@@ -785,6 +834,8 @@ def main():
             # half a minute in which nothing happens, beside the others
             silent = [pool.submit(part, a_silent_client, folder, workers) for workers in (1, 2)]
             part(no_network, folder)
+            part(this_machine_alone, folder)
+            part(one_program_at_a_time, folder)
             part(on_a_terminal, folder)
             part(bad_words, folder)
             part(no_key_is_told, folder)

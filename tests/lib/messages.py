@@ -27,6 +27,7 @@ NO_DATABASE = "not a library: the file is not a database"
 DAMAGED_ROW = "a row of the library is damaged: restore a backup"
 CUT = "the file is damaged or truncated: restore a backup"
 CUT_OR_LOG = "the file is damaged or truncated, or the log beside it belongs to another file: restore a backup of both"
+LOG_ALONE = "the file is missing or empty, but the log beside it may hold a library: put the library's file back beside it, or move the log away"
 HELD = "another process has the file"
 FREE = "it opens now: another process had the file, or the disk was full or failed"
 DISK = "the disk is full or failed"
@@ -156,9 +157,15 @@ def usage(words):
     return of_command("circ send PORT DESKKEY KEY", words[4:]) if words[0] == "send" else of_command("circ file LIBRARY KEY", words[3:])
 
 
+def is_log_alone(path):
+    """Whether a log that has a page stands beside a library file that is missing or empty."""
+    real = os.path.realpath(path)
+    return os.path.isfile(f"{real}-wal") and os.path.getsize(f"{real}-wal") >= 512 and not (os.path.exists(real) and os.path.getsize(real))
+
+
 def makes_library(words):
     """Whether a run that begins now makes a new library in its file."""
-    if not is_run(words) or words[0] not in ("file", "import", "serve"):
+    if not is_run(words) or words[0] not in ("file", "import", "serve") or is_log_alone(words[1]):
         return False
     try:
         return os.path.getsize(words[1]) == 0
@@ -204,6 +211,8 @@ def is_database(path):
 
 def cause(run, path, line, held=None):
     """What is known of a library's file after a fault of a run; whether another process has it is looked up where it isn't given."""
+    if is_log_alone(path):
+        return LOG_ALONE
     try:
         if os.path.isdir(path):
             return "this is a directory"

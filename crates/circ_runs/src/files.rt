@@ -4,7 +4,7 @@ use crate::calls::schema_in;
 use sqlite::{Error, ErrorCode, Wary};
 use sqlite_std_file::OpenError;
 use std::fs::{self, File};
-use std::io::{ErrorKind, Read};
+use std::io::{self, ErrorKind, Read};
 use terms::SCHEMA;
 
 /// The first bytes of a database file.
@@ -56,36 +56,61 @@ pub fn is_held(rt: &HostRuntime, path: &str) -> bool {
 /// The smallest log that holds a page, in bytes.
 const LEAST_LOG: u64 = 512;
 
+/// Returns the path of the log, which lies beside the file that a link leads to.
+fn log_of(rt: &HostRuntime, path: &str) -> io::Result<String> {
+    let real = match fs::canonicalize(rt, path) {
+        Ok(real) => real,
+        Err(error) if error.kind() == ErrorKind::NotFound => {
+            return Ok(format!(in rt.alloc(); "{}-wal", path)?);
+        }
+        Err(error) => return Err(error),
+    };
+    Ok(format!(in rt.alloc(); "{}-wal", real.as_str())?)
+}
+
 /// Returns the length of the log beside the file, in bytes; none if there is no log or it is
-/// inaccessible.
-fn length_of_log(rt: &HostRuntime, path: &str) -> Option<u64> {
-    let log = format!(in rt.alloc(); "{}-wal", path).ok()?;
-    match fs::metadata(rt, log.as_str()) {
-        Ok(file) => Some(file.len()),
-        Err(_) => None,
+/// inaccessible. An error means that there was no memory to look.
+fn length_of_log(rt: &HostRuntime, path: &str) -> io::Result<Option<u64>> {
+    let found = match log_of(rt, path) {
+        Ok(log) => fs::metadata(rt, log.as_str()),
+        Err(error) => Err(error),
+    };
+    match found {
+        Ok(file) if file.is_file() => Ok(Some(file.len())),
+        Ok(_) => Ok(None),
+        Err(error) if error.kind() == ErrorKind::OutOfMemory => Err(error),
+        Err(_) => Ok(None),
     }
 }
 
-/// Returns whether there is a log beside the file.
+/// Returns whether there is a log beside the file, also if there was no memory to look.
 pub fn has_log(rt: &HostRuntime, path: &str) -> bool {
-    length_of_log(rt, path).is_some()
+    match length_of_log(rt, path) {
+        Ok(length) => length.is_some(),
+        Err(_) => true,
+    }
 }
 
-/// Returns whether the log beside the file has a page.
+/// Returns whether the log beside the file has a page, also if there was no memory to look.
 fn has_page_in_log(rt: &HostRuntime, path: &str) -> bool {
     match length_of_log(rt, path) {
-        Some(length) => length >= LEAST_LOG,
-        None => false,
+        Ok(Some(length)) => length >= LEAST_LOG,
+        Ok(None) => false,
+        Err(_) => true,
     }
+}
+
+/// Returns whether the file is missing or empty and the log beside it has a page. A new library
+/// there would overwrite the log, which may hold a whole one.
+pub fn is_log_alone(rt: &HostRuntime, path: &str) -> bool {
+    // The log first: a process that makes a library writes a page of the file before one of the log.
+    has_page_in_log(rt, path) && is_new(rt, path)
 }
 
 /// Removes a log without a page, which a failed opening left if none was there before. Holds the
 /// file meanwhile, so no other process has it.
 pub fn drop_log(rt: &HostRuntime, path: &str) {
-    let (Ok(files), Ok(log)) = (
-        sqlite_std_file::open(rt, path, Wary),
-        format!(in rt.alloc(); "{}-wal", path),
-    ) else {
+    let (Ok(files), Ok(log)) = (sqlite_std_file::open(rt, path, Wary), log_of(rt, path)) else {
         return;
     };
     if !has_page_in_log(rt, path) {
@@ -93,6 +118,10 @@ pub fn drop_log(rt: &HostRuntime, path: &str) {
     }
     drop(files);
 }
+
+/// Said of a log whose library file is missing or empty.
+const LOG_ALONE: &str = "the file is missing or empty, but the log beside it may hold a library: \
+                         put the library's file back beside it, or move the log away";
 
 /// Explains why the system can't open a database file.
 fn cause_of_kind(kind: ErrorKind) -> &'static str {
@@ -172,6 +201,9 @@ fn cause_inside(rt: &HostRuntime, path: &str, is_damaged: bool, migrates: bool) 
 
 /// Explains fault 91 or 93 of a run on a library file; `is_damaged` means 93.
 pub fn cause(rt: &HostRuntime, path: &str, is_damaged: bool, migrates: bool) -> &'static str {
+    if is_log_alone(rt, path) {
+        return LOG_ALONE;
+    }
     match fs::metadata(rt, path) {
         Err(error) if error.kind() == ErrorKind::NotFound => "no such file or directory",
         Err(_) => "the file can't be looked at",

@@ -4,7 +4,7 @@ use crate::calls::{
     FileTables, audit, close_tables, create, desk_on, import, migrate, no_network, not_understood,
     one, open, report, send, serve, tables_of, tell_fault, unreadable,
 };
-use crate::files::{drop_log, has_log, is_held, is_new, may_be_library};
+use crate::files::{drop_log, has_log, is_held, is_log_alone, is_new, may_be_library};
 use crate::notes::{Console, Topic, say, say_begun, say_misread, say_new, say_unwritten};
 use circ::{Exit, Report, Run, Web, WriteFault, read_run};
 use desk::Desk;
@@ -29,8 +29,13 @@ const OPENS: &str = "the library is being opened, and the pages of its patrons a
 /// What a run does at the desk of a library.
 #[derive(Drop)]
 enum DeskWork<'a> {
-    Request { key: Key, words: &'a [String] },
-    Import { copies: &'a str },
+    Request {
+        key: Key,
+        words: &'a [String],
+    },
+    Import {
+        copies: &'a str,
+    },
     Report(Report),
     Audit,
     Serve {
@@ -67,7 +72,7 @@ const PAUSE: u64 = 50;
 
 /// Returns whether to try again: another process has the file, or may just have had it.
 fn may_be_freed(rt: &HostRuntime, path: &str, is_first: bool) -> bool {
-    if !is_new(rt, path) && !may_be_library(rt, path) {
+    if is_log_alone(rt, path) || !is_new(rt, path) && !may_be_library(rt, path) {
         return false;
     }
     is_held(rt, path) || is_first
@@ -82,7 +87,8 @@ enum Absent {
     Refused,
 }
 
-/// Opens the tables of a library once. A file that isn't a database is left alone: 91.
+/// Opens the tables of a library once. A file that isn't a database is left alone, and so is a log
+/// whose file is missing or empty: 91.
 fn open_once<S: Content>(
     rt: &HostRuntime,
     path: &str,
@@ -92,6 +98,9 @@ fn open_once<S: Content>(
         let Absent::Made = absent else {
             return Err(Fault::Stored);
         };
+        if is_log_alone(rt, path) {
+            return Err(Fault::Database);
+        }
         let tables = create(rt, path, S::again())?;
         // Ignored: a failed note doesn't stop the run.
         let _ = say_new(rt, path);
