@@ -16,12 +16,13 @@ use Rattle.chronicle.specs.Growing.{Known, known}
 use Rattle.board.specs.declared.entry.Entry.{Entry}
 use Rattle.board.specs.declared.entry.Frame.{Frame}
 use Rattle.board.specs.declared.entry.Seen.{Seen}
+use Rattle.board.specs.declared.entry.Sight.{Sight}
 use Rattle.board.specs.Workers.{is_worker}
 use Rattle.board.specs.Showing.{Showing, EachIs, GoesOn, IsBoardOf, IsNextEntry, AreEntries, IsReply, ShowsEntry, ShowsMore}
 use Rattle.board.specs.Showing.{page_at, page_of, last_pages, first_seen, seen_of, entries_of, next_frame, overlaid, last_of}
 use Rattle.board.specs.Showing.{last_on, count_own, with_entry, updated}
 use Rattle.desk.specs.declared.showing.OwnPage.{OwnPage}
-use Rattle.board.specs.Rule.{KeepsBoard, ShowsAll, LooksAtBoard, Publishes, nothing_seen, opening, pages_of, are_pages}
+use Rattle.board.specs.Rule.{KeepsBoard, ShowsAll, LooksAtBoard, Publishes, nothing_seen, no_look, opening, pages_of, are_pages}
 use Rattle.board.proofs.Beginnings.{starts_more, goes_self, fold-append, entries-append}
 use Rattle.std.proofs.lemmas.Bool.{false≢true}
 use Rattle.board.proofs.Lasts.{last_next, found_in, count_found, none_in, none_counted, last_here, count-append, count-cons, eqb-self, StandsLast}
@@ -46,10 +47,11 @@ last-more all now = fold-append (λ _ pages. pages) [] all (now ∷ [])
 
 -- ---- the rule
 
-set_view : (all : Seen) (views : List Seen) (side : ℕ) (w : Seen) → GoesOn all w → ((j : ℕ) (v : Seen) → get_elem? views j ≡ some v → GoesOn all v)
-    → (j : ℕ) (u : Seen) → get_elem? (set views side w) j ≡ some u → GoesOn all u
+set_view : (all : Seen) (views : List Sight) (side : ℕ) (w : Sight) → GoesOn all w.seen
+    → ((j : ℕ) (v : Sight) → get_elem? views j ≡ some v → GoesOn all v.seen)
+    → (j : ℕ) (u : Sight) → get_elem? (set views side w) j ≡ some u → GoesOn all u.seen
 set_view all views side w mine others j u e =
-    ⊎_elim (λ (x : (j ≡ side) × (w ≡ u)). subst (λ (y : Seen). GoesOn all y) x.1 mine)
+    ⊎_elim (λ (x : (j ≡ side) × (w ≡ u)). subst (λ (y : Sight). GoesOn all y.seen) x.1 mine)
     (λ (x : (j ≢ side) × (get_elem? views j ≡ some u)). others j u x.1) (at_set views side j w u e)
 
 -- a side that has seen nothing
@@ -74,33 +76,34 @@ shows-first book pages = record { board = record { last = nobody; pages = refl; 
         (none_at (opening book pages).last (refl, (refl, (refl, (refl, (refl, (refl, (refl, (refl, tt)))))))) (w - 1))
 
 -- the rule holds of what is shown first
-pub begins : (book : Book) (pages : List (ℕ × OwnPage)) → KeepsBoard book (opening book pages) (nothing_seen ∷ [])
+pub begins : (book : Book) (pages : List (ℕ × OwnPage)) → KeepsBoard book (opening book pages) (no_look ∷ [])
 begins book pages = record {
   name = refl;
   shows = shows-first book pages;
   sound = tt;
-  each = λ side v e. ⊎_elim (λ (y : get_elem? {A = Seen} [] side ≡ some v). absurd (some-ne-none v (sym y)))
-      (λ (y : nothing_seen ≡ v). subst (λ (u : Seen). GoesOn (first_seen pages) u) y (begins_nothing (first_seen pages)))
-      (at_snoc [] nothing_seen v side e);
+  each = λ side v e. ⊎_elim (λ (y : get_elem? {A = Sight} [] side ≡ some v). absurd (some-ne-none v (sym y)))
+      (λ (y : no_look ≡ v). subst (λ (u : Sight). GoesOn (first_seen pages) u.seen) y (begins_nothing (first_seen pages)))
+      (at_snoc [] no_look v side e);
 }
 
 -- a side more, which has seen nothing
-pub admits : (book : Book) → Admits (KeepsBoard book) nothing_seen
+pub admits : (book : Book) → Admits (KeepsBoard book) no_look
 admits book x views h = record {
   name = h.name;
   shows = h.shows;
   sound = h.sound;
   each = λ side v e. ⊎_elim (λ (old : get_elem? views side ≡ some v). h.each side v old)
-      (λ (is : nothing_seen ≡ v). subst (λ (u : Seen). GoesOn (seen_of x.frames.items) u) is (begins_nothing (seen_of x.frames.items)))
-      (at_snoc views nothing_seen v side e);
+      (λ (is : no_look ≡ v). subst (λ (u : Sight). GoesOn (seen_of x.frames.items) u.seen) is (begins_nothing (seen_of x.frames.items)))
+      (at_snoc views no_look v side e);
 }
 
-pub looks : (book : Book) (side : ℕ) (v : Seen) → Turns (KeepsBoard book) side v (λ x. x) (LooksAtBoard book)
+pub looks : (book : Book) (side : ℕ) (v : Sight) → Turns (KeepsBoard book) side v (λ x. x) (LooksAtBoard book)
 looks book side v x views h at =
-    let all = seen_of x.frames.items in (
-      all,
-      record { name = h.name; shows = h.shows; sound = h.sound; each = set_view all views side all (goes_self all) h.each },
-      record { name = h.name; is = refl; more = h.each side v at; board = h.shows.board; sound = h.sound },
+    let all = seen_of x.frames.items in
+    let w : Sight = record { seen = all; looks = v.looks + 1 } in (
+      w,
+      record { name = h.name; shows = h.shows; sound = h.sound; each = set_view all views side w (goes_self all) h.each },
+      record { name = h.name; is = refl; more = h.each side v at; board = h.shows.board; sound = h.sound; counted = refl },
     )
 
 -- what a worker keeps of a look
@@ -171,18 +174,18 @@ module _ (x next : Showing) (us : List Update) (e : Entry) (pages : are_pages us
     shows-all-next shows may = subst (λ (s : Seen). ShowsAll s next) (sym all-next)
         (shows-next (seen_of x.frames.items) x next us e (frames_next x us e) shows pages may is)
 
-    pub publishes : (book : Book) (side : ℕ) (v : Seen) → IsNextEntry (seen_of x.frames.items).entries e → TurnsAt (KeepsBoard book) side v x next Publishes
+    pub publishes : (book : Book) (side : ℕ) (v : Sight) → IsNextEntry (seen_of x.frames.items).entries e → TurnsAt (KeepsBoard book) side v x next Publishes
     publishes book side v may views h at =
         let old : Seen = seen_of x.frames.items in
         let w : Seen = record { entries = old.entries ++ e ∷ []; pages = old.pages ++ next.pages ∷ [] } in
-        let more : (j : ℕ) (u : Seen) → get_elem? views j ≡ some u → GoesOn w u = λ j u a.
-        let t = h.each j u a in (starts_more old.entries u.entries (e ∷ []) t.0, starts_more old.pages u.pages (next.pages ∷ []) t.1) in (
+        let more : (j : ℕ) (u : Sight) → get_elem? views j ≡ some u → GoesOn w u.seen = λ j u a.
+        let t = h.each j u a in (starts_more old.entries u.seen.entries (e ∷ []) t.0, starts_more old.pages u.seen.pages (next.pages ∷ []) t.1) in (
           v,
           record {
             name = ap (λ (y : Showing). y.frames.book) is ∙ h.name;
             shows = shows-all-next h.shows may;
             sound = subst (λ (s : Seen). AreEntries [] s.entries) (sym all-next) (each-append IsNextEntry [] old.entries e h.sound may);
-            each = subst (λ (s : Seen). (j : ℕ) (u : Seen) → get_elem? (set views side v) j ≡ some u → GoesOn s u) (sym all-next)
+            each = subst (λ (s : Seen). (j : ℕ) (u : Sight) → get_elem? (set views side v) j ≡ some u → GoesOn s u.seen) (sym all-next)
                 (set_view w views side v (more side v at) more);
           },
           refl,

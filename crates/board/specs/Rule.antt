@@ -1,11 +1,12 @@
 -- The rule of the board.
-use Rattle.std.specs.Prelude.{◌≡◌, ℕ, Bool, true, false, List, [], ◌∷◌, length}
+use Rattle.std.specs.Prelude.{◌≡◌, ℕ, ◌+◌, Bool, true, false, List, [], ◌∷◌, length}
 use Rattle.std.specs.Arc.{arc_value}
 use mathlib.Core.Option.{some}
 use lib.ListN.{get_elem?}
 use Rattle.board.specs.declared.board.Update.{Update}
 use Rattle.board.specs.declared.board.Update.TheVariants as update
 use Rattle.board.specs.declared.entry.Seen.{Seen}
+use Rattle.board.specs.declared.entry.Sight.{Sight}
 use Rattle.desk.specs.declared.showing.OwnPage.{OwnPage}
 use Rattle.logbook.specs.Pages.{Book}
 use Rattle.chronicle.specs.Growing.{known}
@@ -14,6 +15,10 @@ use Rattle.board.specs.Showing.{Showing, GoesOn, IsBoardOf, AreEntries, blank, f
 -- A side that has seen nothing.
 abbrev pub nothing_seen : Seen
 nothing_seen = seen_of []
+
+-- A side that has not looked.
+abbrev pub no_look : Sight
+no_look = record { seen = nothing_seen; looks = 0 }
 
 -- The board with this name that shows these pages first.
 abbrev pub opening : Book → List (ℕ × OwnPage) → Showing
@@ -61,21 +66,22 @@ pub record ShowsAll (all : Seen) (x : Showing) : Type 0 where
 
 -- The board shows the result of all that was shown, which it holds; what each side has seen is a beginning of
 -- it.
-pub record KeepsBoard (book : Book) (x : Showing) (views : List Seen) : Type 0 where
+pub record KeepsBoard (book : Book) (x : Showing) (views : List Sight) : Type 0 where
   pub name : x.frames.book ≡ book
   pub shows : ShowsAll (seen_of x.frames.items) x
   pub sound : AreEntries [] (seen_of x.frames.items).entries
-  pub each : (side : ℕ) (v : Seen) → get_elem? views side ≡ some v → GoesOn (seen_of x.frames.items) v
+  pub each : (side : ℕ) (v : Sight) → get_elem? views side ≡ some v → GoesOn (seen_of x.frames.items) v.seen
 
--- A look: what is seen is all that was shown, which extends what was seen before, and the board shows its
--- result.
-pub record LooksAtBoard (book : Book) (v : Seen) (x y : Showing) (w : Seen) : Type 0 where
+-- A look, one more: what is seen is all that was shown, which extends what was seen before, and the board
+-- shows its result.
+pub record LooksAtBoard (book : Book) (v : Sight) (x y : Showing) (w : Sight) : Type 0 where
   pub name : y.frames.book ≡ book
-  pub is : w ≡ seen_of y.frames.items
-  pub more : GoesOn w v
-  pub board : IsBoardOf w y
-  pub sound : AreEntries [] w.entries
+  pub is : w.seen ≡ seen_of y.frames.items
+  pub more : GoesOn w.seen v.seen
+  pub board : IsBoardOf w.seen y
+  pub sound : AreEntries [] w.seen.entries
+  pub counted : w.looks ≡ v.looks + 1
 
 -- One more frame is shown; its publisher sees nothing by that.
-abbrev pub Publishes : Seen → Showing → Showing → Seen → Type 0
+abbrev pub Publishes : Sight → Showing → Showing → Sight → Type 0
 Publishes v x y w = w ≡ v

@@ -22,9 +22,16 @@ pub struct Frame {
     pub pages: LinkedList<(u32, OwnPage)>,
 }
 
-/// What a side of the board knows: a beginning of the handled list, and the pages shown with it,
+/// What a side of the board has seen: a beginning of the handled list, and the pages shown with it,
 /// first without entries and then with each. No value of it is made.
 pub struct Seen {
     pub entries: LinkedList<Entry>,
     pub pages: LinkedList<LinkedList<(u32, OwnPage)>>,
+}
+
+/// What a worker's side knows: what it has seen, and how many times it looked at the board. No
+/// value of it is made.
+pub struct Sight {
+    pub seen: Seen,
+    pub looks: u64,
 }

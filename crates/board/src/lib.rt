@@ -14,7 +14,7 @@ mod window;
 mod worker_id;
 
 pub use board::{Board, Update};
-pub use entry::{Entry, Frame, Seen};
+pub use entry::{Entry, Frame, Seen, Sight};
 pub use first::First;
 pub use publisher::{Blank, Publisher};
 pub use request::SharedRequest;

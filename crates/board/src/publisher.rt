@@ -2,10 +2,10 @@
 
 ghost use Rattle.std.specs.Prelude.{◌≡◌, ◌++◌, ◌<◌, ◌^◌, [], ◌∷◌, MatchResult, IfOk};
 ghost use Rattle.board.specs.Showing.{first_seen, IsNextEntry, ShowsMore};
-ghost use Rattle.board.specs.Rule.{nothing_seen, as_stopped, opening};
+ghost use Rattle.board.specs.Rule.{no_look, as_stopped, opening};
 
 use crate::board::{Board, Update};
-use crate::entry::{Entry, Frame, Seen};
+use crate::entry::{Entry, Frame, Sight};
 use crate::first::First;
 use crate::rule::{Naming, OneList, Publish};
 use crate::stopped::StoppedBoard;
@@ -19,7 +19,7 @@ use std::sync::{Arc, Wait};
 use terms::{Memory, PatronId};
 
 /// The writer of the board.
-pub(crate) type BoardWriter<J> = Writer<Board, Update, Seen, OneList<J>>;
+pub(crate) type BoardWriter<J> = Writer<Board, Update, Sight, OneList<J>>;
 
 /// The most frames shown, so that their count fits. A hall never reaches it: each worker submits at
 /// most 2^50 requests.
@@ -144,7 +144,7 @@ impl<J: Naming> Publisher<J> {
 
     /// Makes a window that has seen nothing. An error means no reader's place is left.
     pub fn window(&self) -> Result<Window<J>, Memory>
-        ensures { IfOk result (λ w. w ≡ nothing_seen) }
+        ensures { IfOk result (λ w. w ≡ no_look) }
     {
         let reader = self.writer.factory().reader()?;
         Ok(Window::over(reader, self.none.again()))

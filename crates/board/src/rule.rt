@@ -1,7 +1,7 @@
 //! The rule of the board: it shows the result of all that was shown, which only grows.
 
 use crate::board::Board;
-use crate::entry::Seen;
+use crate::entry::Sight;
 use crossbeam_utils::rule::{Outcome, Protocol};
 use std::marker::{Brand, PhantomData};
 
@@ -24,12 +24,12 @@ pub struct OneList<J> {
     of: PhantomData<J>,
 }
 
-impl<J: Naming> Protocol<Board, Seen> for OneList<J> {
-    ghost use Rattle.board.specs.Rule.{KeepsBoard, nothing_seen};
+impl<J: Naming> Protocol<Board, Sight> for OneList<J> {
+    ghost use Rattle.board.specs.Rule.{KeepsBoard, no_look};
 
     ghost holds = { KeepsBoard J.book };
 
-    ghost first = { nothing_seen };
+    ghost first = { no_look };
 }
 
 /// A reader looks at the board.
@@ -37,7 +37,7 @@ pub struct Look<J> {
     of: PhantomData<J>,
 }
 
-impl<J: Naming> Outcome<Board, Seen> for Look<J> {
+impl<J: Naming> Outcome<Board, Sight> for Look<J> {
     ghost use Rattle.board.specs.Rule.{LooksAtBoard};
 
     ghost then = { LooksAtBoard J.book };
@@ -46,7 +46,7 @@ impl<J: Naming> Outcome<Board, Seen> for Look<J> {
 /// One more frame is shown.
 pub struct Publish;
 
-impl Outcome<Board, Seen> for Publish {
+impl Outcome<Board, Sight> for Publish {
     ghost use Rattle.board.specs.Rule.{Publishes};
 
     ghost then = { Publishes };

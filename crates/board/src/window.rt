@@ -1,14 +1,14 @@
 //! A worker's side of the board.
 
-ghost use Rattle.std.specs.Prelude.{◌≡◌, ◌≢◌, IfOk, IfSome, IsTrue, IsFalse, MatchOption, OnOk, option_map};
+ghost use Rattle.std.specs.Prelude.{◌≡◌, ◌≢◌, ◌+◌, IfOk, IfSome, IsTrue, IsFalse, MatchOption, OnOk, option_map};
 ghost use Rattle.std.specs.Arc.{arc_value};
 ghost use Rattle.left_right.specs.Sides.{view as knows};
-ghost use Rattle.board.specs.declared.entry.Seen.{Seen};
+ghost use Rattle.board.specs.declared.entry.Sight.{Sight};
 ghost use Rattle.terms.specs.declared.reply.Reply.{Reply};
 ghost use Rattle.board.specs.Showing.{GoesOn, HasLooked, page_of, seen_of, count_own, IsReply};
 
 use crate::board::Board;
-use crate::entry::{Entry, Frame, Seen};
+use crate::entry::{Entry, Frame, Sight};
 use crate::request::SharedRequest;
 use crate::rule::{Look, Naming, OneList};
 use crate::worker_id::WorkerId;
@@ -20,7 +20,7 @@ use std::marker::{Model, PhantomData};
 use std::sync::Arc;
 use terms::PatronId;
 
-type BoardReader<J> = Reader<Board, Seen, OneList<J>>;
+type BoardReader<J> = Reader<Board, Sight, OneList<J>>;
 
 /// Why the board can't be read.
 #[derive(Clone, Copy, Debug, PartialEq, Eq)]
@@ -31,8 +31,8 @@ pub enum ReadError {
     Gone,
 }
 
-/// A worker's side. Contracts see what it has seen: a beginning of the handled list, with its
-/// pages.
+/// A worker's side. Contracts see what it has seen, a beginning of the handled list with its pages,
+/// and how many times it looked at the board.
 #[derive(Drop)]
 pub struct Window<J: Naming> {
     reader: Option<BoardReader<J>>,
@@ -41,16 +41,20 @@ pub struct Window<J: Naming> {
 
 impl<J: Naming> Model for Window<J> {
     ghost use Rattle.std.specs.Prelude.{◌≡◌, IfSome};
+    ghost use Rattle.std.specs.Option.{option_map_or};
     ghost use Rattle.left_right.specs.Sides.{view as knows};
-    ghost use Rattle.board.specs.declared.entry.Seen.{Seen};
+    ghost use Rattle.board.specs.declared.entry.Sight.{Sight};
     ghost use Rattle.board.specs.Showing.{seen_of};
 
-    ghost Value = { Seen };
+    ghost Value = { Sight };
 
-    ghost view = { λ w. seen_of w.frames.items };
+    ghost view = { λ w. record {
+      seen = seen_of w.frames.items;
+      looks = option_map_or (λ r. (knows {V = Sight} r.place).looks) w.reader 0;
+    } };
 
     ghost invariant = { λ w. (w.frames.book ≡ J.book)
-        × IfSome w.reader (λ r. knows {V = Seen} r.place ≡ seen_of w.frames.items) };
+        × IfSome w.reader (λ r. (knows {V = Sight} r.place).seen ≡ seen_of w.frames.items) };
 }
 
 /// What a worker had seen when it left.
@@ -76,8 +80,8 @@ impl<J: Naming> Window<J> {
     /// Makes a side that has seen this.
     pub(crate) fn over(reader: BoardReader<J>, frames: Beginning<Frame>) -> Window<J>
         requires name { frames.book ≡ J.book }
-        requires seen { knows {V = Seen} reader.place ≡ seen_of frames.items }
-        ensures { result ≡ seen_of frames.items }
+        requires seen { (knows {V = Sight} reader.place).seen ≡ seen_of frames.items }
+        ensures { result ≡ knows {V = Sight} reader.place }
     {
         Window {
             reader: Some(reader),
@@ -87,7 +91,7 @@ impl<J: Naming> Window<J> {
 
     /// Stops looking.
     pub fn leave(self) -> LastSeen<J>
-        ensures { result ≡ self }
+        ensures { result ≡ self.seen }
     {
         let Window { reader: _, frames } = self;
         LastSeen {
@@ -98,22 +102,23 @@ impl<J: Naming> Window<J> {
 
     /// Returns a patron's page as the board shows it now, if there is such a patron.
     pub fn page(&mut self, patron: PatronId) -> Result<Option<Arc<OwnPage, Global>>, ReadError>
-        ensures on { GoesOn self.new self.old }
-        ensures looked { OnOk result (HasLooked self.new) }
-        ensures page { IfOk result (λ page. option_map arc_value page ≡ page_of self.new patron) }
+        ensures on { GoesOn self.new.seen self.old.seen }
+        ensures look { OnOk result (self.new.looks ≡ self.old.looks + 1) }
+        ensures looked { OnOk result (HasLooked self.new.seen) }
+        ensures page { IfOk result (λ page. option_map arc_value page ≡ page_of self.new.seen patron) }
     {
-        let Some(reader) = self.reader.take() else {
+        let Some(idle) = self.reader.take() else {
             return Err(ReadError::Gone);
         };
-        match reader.enter_as::<Look<J>>() {
+        match idle.enter_as::<Look<J>>() {
             Ok(reading) => {
                 let page = reading.get().page(patron);
                 self.frames = reading.get().frames();
                 self.reader = Some(reading.leave());
                 page.map_err(|_| ReadError::Memory)
             }
-            Err(reader) => {
-                self.reader = Some(reader);
+            Err(idle) => {
+                self.reader = Some(idle);
                 Err(ReadError::Gone)
             }
         }
@@ -121,9 +126,10 @@ impl<J: Naming> Window<J> {
 
     /// Returns whether the board shows no entry of the worker.
     pub fn shows_none_of(&mut self, worker: WorkerId) -> Result<bool, ReadError>
-        ensures on { GoesOn self.new self.old }
-        ensures none { IfOk result (λ none. IsTrue none → count_own worker self.new.entries ≡ 0) }
-        ensures some { IfOk result (λ none. IsFalse none → count_own worker self.new.entries ≢ 0) }
+        ensures on { GoesOn self.new.seen self.old.seen }
+        ensures look { OnOk result (self.new.looks ≡ self.old.looks + 1) }
+        ensures none { IfOk result (λ none. IsTrue none → count_own worker self.new.seen.entries ≡ 0) }
+        ensures some { IfOk result (λ none. IsFalse none → count_own worker self.new.seen.entries ≢ 0) }
     {
         let _in_limits = worker.number();
         let Some(reader) = self.reader.take() else {
@@ -150,10 +156,11 @@ impl<J: Naming> Window<J> {
         number: u64,
         request: &SharedRequest,
     ) -> Result<Option<Arc<Entry, Global>>, ReadError>
-        ensures on { GoesOn self.new self.old }
+        ensures on { GoesOn self.new.seen self.old.seen }
+        ensures look { OnOk result (self.new.looks ≡ self.old.looks + 1) }
         ensures found { IfOk result (λ found. MatchOption found
-            ((reply : Reply) → ¬ IsReply self.new.entries worker number request.now reply)
-            (λ entry. IsReply self.new.entries worker number request.now (arc_value entry).reply)) }
+            ((reply : Reply) → ¬ IsReply self.new.seen.entries worker number request.now reply)
+            (λ entry. IsReply self.new.seen.entries worker number request.now (arc_value entry).reply)) }
     {
         let Some(reader) = self.reader.take() else {
             return Err(ReadError::Gone);

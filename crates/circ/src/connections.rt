@@ -84,7 +84,12 @@ pub fn work<J: Opening, C: Connections, R: Wait>(
 ) -> Left<J>
     ensures { Works C.comes C.goes C.misses C.Reader.Read.remaining C.Writer.Write.contents
         desk_key.now each connections.old connections.new worker
-        (record { post = result.post; seen = result.sight; closing = result.closing }) }
+        (record {
+          post = result.post;
+          seen = result.sight;
+          closing = result.closing;
+          looks = 0;
+        }) }
 {
     let mut worker = worker;
     let mut routes = None;

@@ -72,6 +72,7 @@ impl<J: Opening, C: Connections> Promise<Served<J, C>> for Task<J, C> {
           post = r.left.post;
           seen = r.left.sight;
           closing = r.left.closing;
+          looks = 0;
         }) };
 }
 
@@ -93,6 +94,7 @@ fn serve_own<J: Opening, C: Connections, R: Wait>(
           post = result.left.post;
           seen = result.left.sight;
           closing = result.left.closing;
+          looks = 0;
         }) }
 {
     let mut connections = connections;
@@ -120,6 +122,7 @@ fn serve_or_leave<J: Opening, C: Connections, R: Wait>(
           post = result.left.post;
           seen = result.left.sight;
           closing = result.left.closing;
+          looks = 0;
         }) }
 {
     let count = if has_thread.load(Ordering::SeqCst) {
@@ -169,7 +172,12 @@ fn spawn<
         × (h.promise.desk_key.value ≡ arc_value shared.desk_key) × (h.promise.each ≡ each))
         (λ s. WorksOrLeaves C.comes C.goes C.misses C.Reader.Read.remaining
         C.Writer.Write.contents (arc_value shared.desk_key) each s.count connections s.connections
-        worker (record { post = s.left.post; seen = s.left.sight; closing = s.left.closing })) }
+        worker (record {
+          post = s.left.post;
+          seen = s.left.sight;
+          closing = s.left.closing;
+          looks = 0;
+        })) }
 {
     let Shared {
         desk_key,
@@ -189,6 +197,7 @@ fn spawn<
               post = result.left.post;
               seen = result.left.sight;
               closing = result.left.closing;
+              looks = 0;
             }) }
     {
         let own = connections;
@@ -222,7 +231,12 @@ fn start<
         × (h.promise.desk_key.value ≡ arc_value desk_key.now) × (h.promise.each ≡ each))
         (λ s. WorksOrLeaves C.comes C.goes C.misses C.Reader.Read.remaining
         C.Writer.Write.contents (arc_value desk_key.now) each s.count connections s.connections
-        worker (record { post = s.left.post; seen = s.left.sight; closing = s.left.closing })) }
+        worker (record {
+          post = s.left.post;
+          seen = s.left.sight;
+          closing = s.left.closing;
+          looks = 0;
+        })) }
 {
     match share(alloc, desk_key) {
         Some(shared) => spawn(rt, alloc, connections, shared, worker, each),
@@ -239,6 +253,7 @@ fn finish<J: Opening, C: Connections, R: Threads>(rt: &R, started: Started<J, C>
           post = result.left.post;
           seen = result.left.sight;
           closing = result.left.closing;
+          looks = 0;
         }))
         (λ s. result ≡ s) }
 {

@@ -110,7 +110,7 @@ module _ (old : Working) where
     closing-on : StartsWith new.closing old.closing
     closing-on = subst (λ (l : List Closing). StartsWith l old.closing) (sym kept.1) (starts_self old.closing)
 
-    pub page-met : (card_key : List ℕ) → TellsPage patron (Some card_key) new.seen told → MeetsAsked (asked.Page patron card_key) old new (Some told)
+    pub page-met : (card_key : List ℕ) → TellsPage patron (Some card_key) old new told → MeetsAsked (asked.Page patron card_key) old new (Some told)
     page-met card_key t = record {
       on = on;
       closing = closing-on;
@@ -122,11 +122,11 @@ module _ (old : Working) where
         faulted (Ok reply) h = tt
         faulted (Err fault) h = (same, h)
 
-        by : (o : Result Reply ServiceFault) → IfOk o (IsPageSeen patron (Some card_key) new.seen) → IfOk o (IsReplyTo (asked.Page patron card_key) old new)
+        by : (o : Result Reply ServiceFault) → IfOk o (IsPageSeen patron (Some card_key) old new) → IfOk o (IsReplyTo (asked.Page patron card_key) old new)
         by (Ok reply) h = (same, h)
         by (Err fault) h = tt
 
-    pub desk-page-met : (request : Request) → page_asked request ≡ Some patron → TellsPage patron None new.seen told
+    pub desk-page-met : (request : Request) → page_asked request ≡ Some patron → TellsPage patron None old new told
         → MeetsAsked (asked.Request request) old new (Some told)
     desk-page-met request asks t =
         record {
@@ -140,7 +140,7 @@ module _ (old : Working) where
         faulted (Ok reply) h = tt
         faulted (Err fault) h = subst (λ (q : Option ℕ). IsFaultFor q request old new fault) (sym asks) (same, h)
 
-        by : (o : Result Reply ServiceFault) → IfOk o (IsPageSeen patron None new.seen) → IfOk o (IsReplyTo (asked.Request request) old new)
+        by : (o : Result Reply ServiceFault) → IfOk o (IsPageSeen patron None old new) → IfOk o (IsReplyTo (asked.Request request) old new)
         by (Ok reply) h = subst (λ (q : Option ℕ). IsReplyFor q request old new reply) (sym asks) (same, h)
         by (Err fault) h = tt
 
@@ -161,7 +161,7 @@ module _ (H : History) (all : Seen) (told : IsTold H all) (old new : Working) (o
             ∙ ap (reply_to (after H (requests r.replied.front))) r.replied.request_is);
       }
 
-  seen-page : (patron : ℕ) (shown : Option (List ℕ)) → IsPageSeen patron shown new.seen reply
+  seen-page : (patron : ℕ) (shown : Option (List ℕ)) → IsPageSeen patron shown old new reply
       → reply ≡ shown_page (own_page (after H (requests new.seen.entries)) patron) shown
   seen-page patron shown p = p.reply_is ∙ ap (λ o. shown_page o shown) (told.pages new.seen on p.looked patron)
 

@@ -31,6 +31,7 @@ use Rattle.web.specs.declared.fault.WebFault.TheVariants.{Status}
 use Rattle.web.specs.declared.fault.WebStatus.{WebStatus}
 use Rattle.web.specs.declared.request.WebRequest.{WebRequest}
 use Rattle.board.specs.declared.entry.Seen.{Seen}
+use Rattle.board.specs.Rule.{nothing_seen}
 use Rattle.board.specs.Showing.{StartsWith, GoesOn, HasLooked, IsReply, page_of, requests}
 use Rattle.hall.specs.declared.messages.TheConstants.{LAST_SUBMISSION}
 use Rattle.hall.specs.declared.messages.Message.{Message}
@@ -44,16 +45,23 @@ use Rattle.hall.specs.Queue.{AreFirst, sent_more, worker_views}
 
 -- ---- what a worker knows
 
--- What it sent; what it has seen on the board, a beginning of the handled list with its pages; and the
--- submission at which the hall closed, if told.
+-- What it sent; what it has seen on the board, a beginning of the handled list with its pages; the submission
+-- at which the hall closed, if told; and how many times it looked at the board, 0 once it has left.
 pub record Working : Type 0 where
   pub post : View
   pub seen : Seen
   pub closing : List Closing
+  pub looks : ℕ
 
 -- The workers 1 to n, which have sent nothing.
 abbrev pub AreWorkers : ℕ → List Working → Type 0
 AreWorkers n workers = map (λ (w : Working). w.post) workers ≡ worker_views n
+
+-- It has not looked at the board, has seen nothing of it, and was told this of the closing.
+pub record IsNew (told : List Closing) (w : Working) : Type 0 where
+  pub seen : w.seen ≡ nothing_seen
+  pub looks : w.looks ≡ 0
+  pub closing : w.closing ≡ told
 
 -- ---- what is submitted
 
@@ -87,12 +95,13 @@ shown_page None (Some card_key) = Refused NotAllowed
 shown_page (Some page) None = page.reply
 shown_page None None = Refused UnknownPatron
 
--- The reply is the last seen page of the patron: the one shown with the beginning of the handled list that
--- was seen.
-pub record IsPageSeen (patron : ℕ) (shown : Option (List ℕ)) (seen : Seen) (reply : Reply)
+-- The worker looked at the board once, and the reply is the patron's page that it saw: the one shown with the
+-- beginning of the handled list that was then seen.
+pub record IsPageSeen (patron : ℕ) (shown : Option (List ℕ)) (old new : Working) (reply : Reply)
     : Type 0 where
-  pub looked : HasLooked seen
-  pub reply_is : reply ≡ shown_page (page_of seen patron) shown
+  pub look : new.looks ≡ old.looks + 1
+  pub looked : HasLooked new.seen
+  pub reply_is : reply ≡ shown_page (page_of new.seen patron) shown
 
 -- The reply to a request not answered from the board: it was submitted, and the board shows this reply for
 -- it. The beginning of the handled list that the board shows, ending with the submission, extends all that
@@ -104,7 +113,7 @@ pub record IsReplied (request : Requested) (old new : Working) (reply : Reply) :
 
 -- The reply to the desk's request for a page, or to anybody's request for something else.
 abbrev pub IsReplyFor : Option ℕ → Requested → Working → Working → Reply → Type 0
-IsReplyFor (Some patron) request old new reply = (new.post ≡ old.post) × IsPageSeen patron None new.seen reply
+IsReplyFor (Some patron) request old new reply = (new.post ≡ old.post) × IsPageSeen patron None old new reply
 IsReplyFor None request old new reply = IsReplied request old new reply
 
 -- The reply to what is asked for. A page is the one that the board shows with what the worker has seen, a
@@ -112,7 +121,7 @@ IsReplyFor None request old new reply = IsReplied request old new reply
 abbrev pub IsReplyTo : Asked → Working → Working → Reply → Type 0
 IsReplyTo Nothing old new reply = (new.post ≡ old.post) × (reply ≡ Refused NotAllowed)
 IsReplyTo (Page patron card_key) old new reply =
-    (new.post ≡ old.post) × IsPageSeen patron (Some card_key) new.seen reply
+    (new.post ≡ old.post) × IsPageSeen patron (Some card_key) old new reply
 IsReplyTo (Request request) old new reply = IsReplyFor (page_asked request) request old new reply
 
 -- For a desk's page request nothing is submitted; any other request is submitted at most once.
@@ -181,11 +190,11 @@ pub record TellsSubmitted (request : Requested) (old new : Working) (answer : An
   pub fault : IfErr outcome (IsFaultOf request old new)
 
 -- The same for a page.
-pub record TellsPage (patron : ℕ) (shown : Option (List ℕ)) (seen : Seen) (answer : Answer)
+pub record TellsPage (patron : ℕ) (shown : Option (List ℕ)) (old new : Working) (answer : Answer)
     : Type 0 where
   pub outcome : Result Reply ServiceFault
   pub answer_is : answer ≡ answer_to outcome
-  pub reply : IfOk outcome (IsPageSeen patron shown seen)
+  pub reply : IfOk outcome (IsPageSeen patron shown old new)
   pub fault : IfErr outcome IsOwnFault
 
 -- What is asked for gets an answer; or none, since memory ran out, or the board is gone.

@@ -52,6 +52,7 @@ impl<J: Opening> Ended<J> {
               post = left.post;
               seen = left.sight;
               closing = left.closing;
+              looks = 0;
             }) }
         ensures closing { IsTrue result → StartsWith self.old.closing left.closing }
     {

@@ -1,7 +1,7 @@
 //! Opening a hall.
 
 ghost use Rattle.std.specs.Prelude.{◌≡◌, ◌+◌, ◌≤◌, ◌⊎◌, ℕ, true, [], None, Ok, IfErr, IfOk, OnOk};
-ghost use Rattle.std.specs.Prelude.{MatchResult};
+ghost use Rattle.std.specs.Prelude.{All, MatchResult};
 ghost use Rattle.hall_schedule.specs.declared.schedule.TheConstants.{WORKERS as most};
 ghost use Rattle.terms.specs.declared.fault.Fault.TheVariants.{Memory as NoMemory};
 ghost use Rattle.terms.specs.declared.fault.ServiceFault.TheVariants.{Met, Closed};
@@ -9,11 +9,12 @@ ghost use Rattle.model.specs.History.{History};
 ghost use Rattle.store.specs.Library.{over_memory, state};
 ghost use Rattle.desk.specs.Answering.{Learns, Shows};
 ghost use Rattle.desk.specs.Showing.{own_page};
+ghost use Rattle.board.specs.Rule.{no_look};
 ghost use Rattle.board.specs.Showing.{page_at};
 ghost use Rattle.hall.specs.Queue.{IsHearing, worker_view};
 ghost use Rattle.hall.specs.Openings.{why_number, can_be_workers, IsUnopened, IsUnmade, LooksOnly};
 ghost use Rattle.hall.specs.Openings.{MeetsFaultOf, AreFirstPages, OpensBoard, OpensWith};
-ghost use Rattle.hall.specs.Serving.{AreWorkers};
+ghost use Rattle.hall.specs.Serving.{AreWorkers, IsNew};
 
 use crate::closing::KnownClosing;
 use crate::desk_side::DeskSide;
@@ -98,7 +99,8 @@ fn hire_one<J: Opening, R: Wait>(
     notices: &Arc<Notices<J>, Global>,
 ) -> Result<Worker<J>, Memory>
     requires { post ≡ worker_view worker }
-    ensures { IfOk result (λ w. (w.post ≡ worker_view worker) × (w.seen ≡ window)) }
+    ensures post { IfOk result (λ w. w.post ≡ worker_view worker) }
+    ensures new { window ≡ no_look → IfOk result (IsNew closing) }
 {
     let parker = Parker::new(alloc)?;
     notices.hang(rt, worker, parker.unparker().clone()?);
@@ -122,6 +124,7 @@ fn hire_all<J: Opening, R: Wait>(
     ensures inbox { IsHearing inbox.new × (inbox.new.got ≡ []) }
     ensures made { OnOk result (inbox.new.made ≡ workers) }
     ensures workers { IfOk result (λ all. AreWorkers workers all.items) }
+    ensures new { IfOk result (λ all. All (IsNew closing.now) all.items) }
     ensures fault { IfErr result (λ fault. (fault ≡ Met NoMemory) ⊎ (fault ≡ Closed)) }
 {
     let mut all = Vec::with_capacity(alloc, workers)?;
@@ -154,6 +157,7 @@ fn hire<J: Opening, R: Wait>(
     ensures inbox { IfOk result (λ r. IsHearing r.0 × (r.0.got ≡ []) × (r.0.made ≡ workers)) }
     ensures untold { IfOk result (λ r. r.1 ≡ []) }
     ensures workers { IfOk result (λ r. AreWorkers workers r.2.items) }
+    ensures new { IfOk result (λ r. All (IsNew []) r.2.items) }
     ensures fault { IfErr result (λ fault. (fault ≡ Met NoMemory) ⊎ (fault ≡ Closed)) }
 {
     let (hiring, mut inbox, closings) = queue.ends::<J>();
@@ -198,7 +202,8 @@ fn can_be(workers: usize) -> bool
 
 impl Hall {
     /// Opens a hall of 1 to 8 workers on a newly made queue and board. Returns the desk's side and
-    /// the workers, numbered from 1. The board shows all patrons' pages.
+    /// the workers, numbered from 1, which have sent, seen and been told nothing. The board shows
+    /// all patrons' pages.
     ///
     /// 21 for another number of workers; 90, 91 or 93 if a page can't be had or memory runs out; 92
     /// if the board has no reader's place for a worker. Then the desk is returned, with the tables
@@ -219,6 +224,7 @@ impl Hall {
         ensures opens { IfOk result (λ r. OpensWith J.shows S.Store r.0.desk r.0.publisher.shown) }
         ensures pages { IfOk result (λ r. OpensBoard S.Store desk r.0.desk r.0.publisher) }
         ensures workers { IfOk result (λ r. AreWorkers workers r.1.items) }
+        ensures new { IfOk result (λ r. All (IsNew []) r.1.items) }
         ensures limits { OnOk result (can_be_workers workers ≡ true) }
         ensures fault { IfErr result (λ f. IsUnopened workers S.Store desk f.desk f.why) }
     {
@@ -273,6 +279,7 @@ impl Hall {
         ensures pages { IfOk result (λ r. (patron : ℕ)
             → page_at r.0.publisher.board.pages patron ≡ None) }
         ensures workers { IfOk result (λ r. AreWorkers workers r.1.items) }
+        ensures new { IfOk result (λ r. All (IsNew []) r.1.items) }
         ensures limits { OnOk result (can_be_workers workers ≡ true) }
         ensures fault { IfErr result (IsUnmade workers) }
     {

@@ -30,7 +30,8 @@ use std::sync::{Arc, Wait};
 use terms::{Caller, CardKey, Command, Fault, Memory, PatronId, Refusal, Request, ServiceFault};
 use web::{Answer, Asked, Routes, WebFault, read_request, write_answer};
 
-/// A worker of a hall. Contracts see what it sent and what it has seen of the handled list.
+/// A worker of a hall. Contracts see what it sent, what it has seen of the handled list, what it was
+/// told of the closing, and how many times it looked at the board.
 #[derive(Drop)]
 pub struct Worker<J: Opening> {
     post: Post<J>,
@@ -52,7 +53,12 @@ impl<J: Opening> Model for Worker<J> {
 
     ghost Value = { Working };
 
-    ghost view = { λ w. record { post = w.post; seen = w.window; closing = w.closing } };
+    ghost view = { λ w. record {
+      post = w.post;
+      seen = w.window.seen;
+      closing = w.closing;
+      looks = w.window.looks;
+    } };
 
     ghost invariant = { λ w. IsSending w.post
         × (w.post.worker ≡ w.worker)
@@ -102,11 +108,11 @@ fn await_entry<J: Opening, R: Wait>(
     number: u64,
     request: &SharedRequest,
 ) -> Result<Arc<Entry, Global>, NoReply>
-    ensures on { GoesOn window.new window.old }
+    ensures on { GoesOn window.new.seen window.old.seen }
     ensures closing { StartsWith closing.new closing.old }
     ensures told { IfErr result (IfTold
         (λ fault. told_of closing.new worker number ≡ Some fault)) }
-    ensures found { IfOk result (λ entry. IsReply window.new.entries worker number request.now
+    ensures found { IfOk result (λ entry. IsReply window.new.seen.entries worker number request.now
         (arc_value entry).reply) }
 {
     'looks: for _ in rt.forever() {
@@ -184,8 +190,8 @@ impl<J: Opening> Worker<J> {
         parker: Parker,
     ) -> Worker<J>
         requires { post ≡ worker_view worker }
-        ensures { (result.post ≡ worker_view worker) × (result.seen ≡ window)
-            × (result.closing ≡ closing) }
+        ensures { (result.post ≡ worker_view worker) × (result.seen ≡ window.seen)
+            × (result.looks ≡ window.looks) × (result.closing ≡ closing) }
     {
         Worker {
             post,
@@ -364,7 +370,7 @@ impl<J: Opening> Worker<J> {
         ensures same { (self.new.post ≡ self.old.post) × (self.new.closing ≡ self.old.closing) }
         ensures on { GoesOn self.new.seen self.old.seen }
         ensures told { TellsPage patron (option_map (λ k. k.now) shown.entry)
-            self.new.seen result }
+            self.old self.new result }
     {
         match self.window.page(patron) {
             Ok(page) => match page_answer(alloc, page, shown) {

@@ -29,7 +29,7 @@ returns-clause-parts g t c =
     let rest = c.pop-2.new.self.items in
     let mid = c.run-desk.new.connections.items in
     let now = c.finish-left.result in
-    let left : Working = record { post = now.left.post; seen = now.left.sight; closing = now.left.closing } in
+    let left : Working = record { post = now.left.post; seen = now.left.sight; closing = now.left.closing; looks = 0 } in
     let taken = c.take_in-took_part in
     let was = c.run-desk.result.ended in
     let same = taken.ensures.same in
@@ -42,7 +42,7 @@ returns-clause-parts g t c =
     let works : WorksOrLeaves g.C.Connections.comes g.C.Connections.goes g.C.Connections.misses g.C.Reader.Read.remaining g.C.Writer.Write.contents key c.args.each now.count own now.connections worker left =
     joined c.start-started.result _ _ _ now
     (λ d. WorksOrLeaves g.C.Connections.comes g.C.Connections.goes g.C.Connections.misses g.C.Reader.Read.remaining g.C.Writer.Write.contents key c.args.each d.count own d.connections worker
-    (record { post = d.left.post; seen = d.left.sight; closing = d.left.closing }))
+    (record { post = d.left.post; seen = d.left.sight; closing = d.left.closing; looks = 0 }))
     c.start-started.ensures c.finish-left.ensures
     (λ h a b. at-these (λ key' each' own' worker'. WorksOrLeaves g.C.Connections.comes g.C.Connections.goes g.C.Connections.misses g.C.Reader.Read.remaining g.C.Writer.Write.contents key' each' now.count own' now.connections worker' left)
     h.promise.desk_key.value key h.promise.each c.args.each h.promise.connections.value own h.promise.worker.value worker

@@ -1,4 +1,7 @@
-use Rattle.std.proofs.Common.{◌∙◌, ap, rules}
+use Rattle.std.proofs.Common.{◌∙◌, ap, sym, subst, rules}
+use Rattle.std.specs.Prelude.{All}
+use Rattle.std.proofs.lemmas.List.Elements.{All-push}
+use Rattle.hall.specs.Serving.{IsNew}
 use Rattle.hall.specs.Queue.{worker_view}
 use Rattle.hall.proofs.Hiring.{hired, still-hearing}
 use Rattle.hall.proofs.hall.hire_all.Goals as goal
@@ -12,5 +15,7 @@ loop-k-preserved g c =
       fresh = s.1;
       made = s.2;
       all = hired c.loop-k.k c.loop-k.all.items c.push.new.self.items c.in_ok-hired.hired i.all
-          (c.in_ok-hired.ensures.0 ∙ ap worker_view (search rules)) c.in_ok-push.ensures.items;
+          (c.in_ok-hired.ensures.post ∙ ap worker_view (search rules)) c.in_ok-push.ensures.items;
+      new = subst (All (IsNew c.loop-k.closing)) (sym c.in_ok-push.ensures.items)
+          (All-push (IsNew c.loop-k.closing) c.loop-k.all.items c.in_ok-hired.hired i.new (search rules));
     }

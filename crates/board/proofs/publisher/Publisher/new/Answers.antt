@@ -1,7 +1,7 @@
 use Rattle.std.proofs.Common.{◌≡◌, [], ◌∷◌, ◌++◌, ap, sym, ◌∙◌, subst}
 use Rattle.chronicle.specs.Growing.{Known, known}
 use Rattle.board.specs.declared.entry.Frame.{Frame}
-use Rattle.board.specs.Rule.{KeepsBoard, ShowsAll, nothing_seen, opening, are_pages}
+use Rattle.board.specs.Rule.{KeepsBoard, ShowsAll, no_look, opening, are_pages}
 use Rattle.board.specs.Showing.{Showing, blank, first_frame, first_seen, seen_of}
 use Rattle.board.proofs.Keeping.{begins, shows-first}
 use Rattle.board.proofs.publisher.Publisher.new.Goals as goal
@@ -18,7 +18,7 @@ new-requires-clause-rule g c =
     let board : c.new-board.result ≡ opening book first =
     c.new-board.ensures ∙ (ap (blank c.first.inside.pages) (c.again.ensures ∙ frames)
     ∙ ap (λ p. blank p (known book (first_frame first ∷ []))) c.first.view_is) in
-    subst (λ (x : Showing). KeepsBoard book x (nothing_seen ∷ [])) (sym board) (begins book first)
+    subst (λ (x : Showing). KeepsBoard book x (no_look ∷ [])) (sym board) (begins book first)
 
 pub invariant_of-result : goal.invariant_of-result
 invariant_of-result g c =

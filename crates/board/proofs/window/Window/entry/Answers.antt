@@ -20,7 +20,7 @@ match_option None N M P Q n f h = n h
 
 pub returns-after-entry-clause-found : goal.returns-after-entry-clause-found
 returns-after-entry-clause-found g c =
-    let seen = view c.in-Ok.reading.place in
+    let seen = (view c.in-Ok.reading.place).seen in
     let looked = c.in-Ok.ensures.1 in
     let now = entries_of c.frames.result.items in
     let same : now ≡ seen.entries =

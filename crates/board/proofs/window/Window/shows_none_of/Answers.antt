@@ -16,7 +16,7 @@ is-not false h = refl
 
 pub returns-in-Ok-clause-none : goal.returns-in-Ok-clause-none
 returns-in-Ok-clause-none g c = λ none.
-    let seen = view c.in-Ok.reading.place in
+    let seen = (view c.in-Ok.reading.place).seen in
     let looked = c.in-Ok.ensures.1 in
     let same : seen_of c.frames.result.items ≡ seen =
     seen-now c.in-Ok.reading.part.value c.frames.result seen looked.is (c.frames.ensures ∙ ap (λ x. x.frames) c.get-in-Ok.ensures) in
@@ -30,7 +30,7 @@ is-so false h = let never : true ≡ false = h in absurd (false≢true (sym neve
 
 pub returns-in-Ok-clause-some : goal.returns-in-Ok-clause-some
 returns-in-Ok-clause-some g c = λ some none.
-    let seen = view c.in-Ok.reading.place in
+    let seen = (view c.in-Ok.reading.place).seen in
     let looked = c.in-Ok.ensures.1 in
     let same : seen_of c.frames.result.items ≡ seen =
     seen-now c.in-Ok.reading.part.value c.frames.result seen looked.is (c.frames.ensures ∙ ap (λ x. x.frames) c.get-in-Ok.ensures) in

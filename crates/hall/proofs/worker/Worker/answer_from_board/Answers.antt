@@ -16,7 +16,7 @@ returns-clause-told g c =
             outcome = Ok (shown_page (option_map arc_value w.in-Ok.page) shown);
             answer_is = w.result-is ∙ w.in-Ok-page_answer.ensures;
             reply =
-                record { looked = w.in-Ok.ensures.looked; reply_is = ap (λ o. shown_page o shown) w.in-Ok.ensures.page };
+                record { look = w.in-Ok.ensures.look; looked = w.in-Ok.ensures.looked; reply_is = ap (λ o. shown_page o shown) w.in-Ok.ensures.page };
             fault = tt;
           }
       | in-Ok+in-Err w ↦ record { outcome = Err (Met Memory); answer_is = w.result-is; reply = tt; fault = inl refl }
