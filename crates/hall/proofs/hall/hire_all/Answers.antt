@@ -16,6 +16,6 @@ loop-k-preserved g c =
       made = s.2;
       all = hired c.loop-k.k c.loop-k.all.items c.push.new.self.items c.in_ok-hired.hired i.all
           (c.in_ok-hired.ensures.post ∙ ap worker_view (search rules)) c.in_ok-push.ensures.items;
-      new = subst (All (IsNew c.loop-k.closing)) (sym c.in_ok-push.ensures.items)
-          (All-push (IsNew c.loop-k.closing) c.loop-k.all.items c.in_ok-hired.hired i.new (search rules));
+      new = subst (All (IsNew c.args.closing.now)) (sym c.in_ok-push.ensures.items)
+          (All-push (IsNew c.args.closing.now) c.loop-k.all.items c.in_ok-hired.hired i.new (search rules));
     }
