@@ -110,7 +110,7 @@ def a_log_alone(folder):
             refused[state] += beside(inside) == before
         shutil.copy(path, lost)
         the_rows_are(town, library)
-        for name in ("lost.db", "lost.db-wal"):
+        for name in beside(lost):
             os.remove(os.path.join(place, name))
         if state == "missing":
             say(lost, GROUND[:1])
