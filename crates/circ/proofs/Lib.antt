@@ -2,6 +2,7 @@ pub mod Ends
 pub mod Said
 pub mod Told
 pub mod Imports
+mod Sent
 pub mod Halls
 mod Parts
 mod CountedRows

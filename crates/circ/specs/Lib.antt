@@ -7,3 +7,5 @@ pub mod Connections
 pub mod Serving
 pub mod Auditing
 pub mod Migrating
+pub mod Arguments
+pub mod Sending

@@ -1,5 +1,13 @@
 //! Command-line arguments: what the program is asked to do.
 
+ghost use Rattle.std.specs.Prelude.{◌≡◌, ◌<◌, ◌≤◌, ◌^◌, ◌∷◌, [], ℕ, codes, IfOk, IfSome, IfNone};
+ghost use Rattle.std.specs.Prelude.{MatchOption};
+ghost use Rattle.std.specs.Fmt.{decimal};
+ghost use Rattle.front.specs.Understood.{texts_of};
+ghost use Rattle.circ.specs.Arguments.{HasArgument, report_words, IsPort, IsRun, IsNoRun};
+ghost use Rattle.circ.specs.Arguments.{IsWorkers, IsEach};
+ghost use Rattle.desk.specs.declared.reports.Report.{Report as Asked};
+
 use crate::serving::Web;
 use desk::Report;
 use hall_schedule::WORKERS;
@@ -113,7 +121,10 @@ fn wrong_port() -> WrongArgument {
 }
 
 /// Reads a request on a file: a well-formed key and at least one word.
-fn read_file<'a>(alloc: Global, words: &'a [String]) -> Result<Option<Run<'a>>, Memory> {
+fn read_file<'a>(alloc: Global, words: &'a [String]) -> Result<Option<Run<'a>>, Memory>
+    ensures { let asked = codes "file" ∷ texts_of words.now in
+        IfOk result (λ o. MatchOption o (IsNoRun asked) (IsRun asked)) }
+{
     let [path, key, words @ ..] = words else {
         return Ok(None);
     };
@@ -131,7 +142,10 @@ fn read_file<'a>(alloc: Global, words: &'a [String]) -> Result<Option<Run<'a>>, 
 }
 
 /// Reads an import: exactly two paths, library and copies file.
-fn read_import_run<'a>(words: &'a [String]) -> Option<Run<'a>> {
+fn read_import_run<'a>(words: &'a [String]) -> Option<Run<'a>>
+    ensures { let asked = codes "import" ∷ texts_of words.now in
+        MatchOption result (IsNoRun asked) (IsRun asked) }
+{
     let [path, copies] = words else {
         return None;
     };
@@ -142,7 +156,13 @@ fn read_import_run<'a>(words: &'a [String]) -> Option<Run<'a>> {
 }
 
 /// Reads a report by name, with its day or branch.
-fn read_report(name: &str, argument: &str) -> Option<Report> {
+fn read_report(name: &str, argument: &str) -> Option<Report>
+    ensures forms { IfSome result HasArgument }
+    ensures written { IfSome result
+        (λ report. name.now ∷ argument.now ∷ [] ≡ report_words report) }
+    ensures none { IfNone result ((report : Asked) → HasArgument report
+        → name.now ∷ argument.now ∷ [] ≡ report_words report → ⊥) }
+{
     match name {
         "overdue" => Some(Report::Overdue(BranchId::new(read_number(argument)?))),
         "till" => Some(Report::Till(Day::read(argument)?)),
@@ -152,7 +172,10 @@ fn read_report(name: &str, argument: &str) -> Option<Report> {
 }
 
 /// Reads a report on a file: exactly its path, its name and one argument.
-fn read_report_run<'a>(words: &'a [String]) -> Option<Run<'a>> {
+fn read_report_run<'a>(words: &'a [String]) -> Option<Run<'a>>
+    ensures { let asked = codes "report" ∷ texts_of words.now in
+        MatchOption result (IsNoRun asked) (IsRun asked) }
+{
     let [path, name, argument] = words else {
         return None;
     };
@@ -164,7 +187,10 @@ fn read_report_run<'a>(words: &'a [String]) -> Option<Run<'a>> {
 }
 
 /// Reads an audit: exactly one path.
-fn read_audit_run<'a>(words: &'a [String]) -> Option<Run<'a>> {
+fn read_audit_run<'a>(words: &'a [String]) -> Option<Run<'a>>
+    ensures { let asked = codes "audit" ∷ texts_of words.now in
+        MatchOption result (IsNoRun asked) (IsRun asked) }
+{
     let [path] = words else {
         return None;
     };
@@ -174,7 +200,10 @@ fn read_audit_run<'a>(words: &'a [String]) -> Option<Run<'a>> {
 }
 
 /// Reads a migration: exactly one path.
-fn read_migrate_run<'a>(words: &'a [String]) -> Option<Run<'a>> {
+fn read_migrate_run<'a>(words: &'a [String]) -> Option<Run<'a>>
+    ensures { let asked = codes "migrate" ∷ texts_of words.now in
+        MatchOption result (IsNoRun asked) (IsRun asked) }
+{
     let [path] = words else {
         return None;
     };
@@ -184,7 +213,11 @@ fn read_migrate_run<'a>(words: &'a [String]) -> Option<Run<'a>> {
 }
 
 /// Reads a port: a number from 1 on.
-fn read_port(text: &str) -> Option<u16> {
+fn read_port(text: &str) -> Option<u16>
+    ensures port { IfSome result IsPort }
+    ensures written { IfSome result (λ port. text.now ≡ decimal port) }
+    ensures none { IfNone result ((port : ℕ) → IsPort port → text.now ≡ decimal port → ⊥) }
+{
     match u16::try_from(read_number(text)?) {
         Ok(0) | Err(_) => None,
         Ok(port) => Some(port),
@@ -192,7 +225,12 @@ fn read_port(text: &str) -> Option<u16> {
 }
 
 /// Reads the number of workers: 1 to 8.
-fn read_workers(text: &str) -> Option<usize> {
+fn read_workers(text: &str) -> Option<usize>
+    ensures workers { IfSome result IsWorkers }
+    ensures written { IfSome result (λ workers. text.now ≡ decimal workers) }
+    ensures none { IfNone result ((workers : ℕ) → IsWorkers workers
+        → text.now ≡ decimal workers → ⊥) }
+{
     let workers = read_number(text)?;
     if workers == 0 || u64::from(workers) > WORKERS {
         return None;
@@ -204,7 +242,11 @@ fn read_workers(text: &str) -> Option<usize> {
 const MOST_CONNECTIONS: u32 = 1_000_000;
 
 /// Reads how many connections a worker serves: at least one.
-fn read_each(text: &str) -> Option<u32> {
+fn read_each(text: &str) -> Option<u32>
+    ensures each { IfSome result IsEach }
+    ensures written { IfSome result (λ each. text.now ≡ decimal each) }
+    ensures none { IfNone result ((each : ℕ) → IsEach each → text.now ≡ decimal each → ⊥) }
+{
     let each = read_number(text)?;
     if each == 0 || each > MOST_CONNECTIONS {
         return None;
@@ -212,21 +254,31 @@ fn read_each(text: &str) -> Option<u32> {
     Some(each)
 }
 
-/// Reads a serve run: exactly a path and four more words.
-fn read_serve<'a>(alloc: Global, words: &'a [String]) -> Result<Option<Run<'a>>, Memory> {
-    let [path, port, workers, each, desk_key] = words else {
+/// Reads a serve run from its five words.
+fn read_settings<'a>(
+    alloc: Global,
+    path: &'a str,
+    port: &str,
+    workers: &str,
+    each: &str,
+    desk_key: &str,
+) -> Result<Option<Run<'a>>, Memory>
+    ensures { let asked = codes "serve" ∷ path.now ∷ port.now ∷ workers.now ∷ each.now
+        ∷ desk_key.now ∷ [] in
+        IfOk result (λ o. MatchOption o (IsNoRun asked) (IsRun asked)) }
+{
+    let Some(port) = read_port(port) else {
         return Ok(None);
     };
-    let (Some(port), Some(workers), Some(each)) = (
-        read_port(port.as_str()),
-        read_workers(workers.as_str()),
-        read_each(each.as_str()),
-    ) else {
+    let Some(workers) = read_workers(workers) else {
         return Ok(None);
     };
-    match CardKey::new(alloc, desk_key.as_str())? {
+    let Some(each) = read_each(each) else {
+        return Ok(None);
+    };
+    match CardKey::new(alloc, desk_key)? {
         Some(desk_key) => Ok(Some(Run::Serve {
-            path: path.as_str(),
+            path,
             workers,
             web: Web {
                 port,
@@ -238,8 +290,29 @@ fn read_serve<'a>(alloc: Global, words: &'a [String]) -> Result<Option<Run<'a>>,
     }
 }
 
+/// Reads a serve run: exactly a path and four more words.
+fn read_serve<'a>(alloc: Global, words: &'a [String]) -> Result<Option<Run<'a>>, Memory>
+    ensures { let asked = codes "serve" ∷ texts_of words.now in
+        IfOk result (λ o. MatchOption o (IsNoRun asked) (IsRun asked)) }
+{
+    let [path, port, workers, each, desk_key] = words else {
+        return Ok(None);
+    };
+    read_settings(
+        alloc,
+        path.as_str(),
+        port.as_str(),
+        workers.as_str(),
+        each.as_str(),
+        desk_key.as_str(),
+    )
+}
+
 /// Reads a send run: well-formed keys and at least one word.
-fn read_send<'a>(alloc: Global, words: &'a [String]) -> Result<Option<Run<'a>>, Memory> {
+fn read_send<'a>(alloc: Global, words: &'a [String]) -> Result<Option<Run<'a>>, Memory>
+    ensures { let asked = codes "send" ∷ texts_of words.now in
+        IfOk result (λ o. MatchOption o (IsNoRun asked) (IsRun asked)) }
+{
     let [port, desk_key, key, words @ ..] = words else {
         return Ok(None);
     };
@@ -342,7 +415,10 @@ pub fn wrong_argument(alloc: Global, words: &[String]) -> Result<Option<WrongArg
 
 /// Reads the run that the words ask for; None if not understood. A request's own words are read
 /// later.
-pub fn read_run<'a>(alloc: Global, words: &'a [String]) -> Result<Option<Run<'a>>, Memory> {
+pub fn read_run<'a>(alloc: Global, words: &'a [String]) -> Result<Option<Run<'a>>, Memory>
+    ensures { IfOk result
+        (λ o. MatchOption o (IsNoRun (texts_of words.now)) (IsRun (texts_of words.now))) }
+{
     let [first, words @ ..] = words else {
         return Ok(None);
     };

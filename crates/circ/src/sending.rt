@@ -3,6 +3,9 @@
 ghost use Rattle.std.specs.Prelude.{◌≡◌, ◌++◌, ◌∷◌, []};
 ghost use Rattle.circ.specs.Exits.{exit_for};
 ghost use Rattle.circ.specs.Lines.{EndsWith};
+ghost use Rattle.circ.specs.Sending.{TellsReceived, TellsSent, WritesLine};
+ghost use Rattle.front.specs.Understood.{texts_of};
+ghost use Rattle.web.specs.Sending.{send_bytes};
 
 use crate::lines::{Exit, WriteFault, no_network, out_of_memory};
 use std::alloc::Global;
@@ -31,6 +34,23 @@ fn tell_answer<W: Write>(writer: &mut W, status: u16, body: &str) -> Result<Exit
     Ok(exit_of_status(status))
 }
 
+/// Reads the answer and writes one line: its body, or that no answer came or that there was no
+/// memory.
+fn receive<I: Read, W: Write>(
+    alloc: Global,
+    input: &mut I,
+    writer: &mut W,
+) -> Result<Exit, WriteFault>
+    ensures { WritesLine (TellsReceived (I.remaining input.old))
+        (W.contents writer.old) (W.contents writer.new) result }
+{
+    match read_answer(alloc, input) {
+        Ok(answer) => tell_answer(writer, answer.status, answer.body.as_str()),
+        Err(AnswerFault::Memory) => out_of_memory(writer),
+        Err(AnswerFault::Malformed | AnswerFault::Read) => no_network(writer),
+    }
+}
+
 /// Sends the words as a request of the desk and writes one line: the body of the answer, or that
 /// there was no network or no memory. Sends through `output` and reads the answer from `input`.
 pub fn send<I: Read, O: Write, W: Write>(
@@ -41,15 +61,14 @@ pub fn send<I: Read, O: Write, W: Write>(
     key: &Key,
     words: &[String],
     writer: &mut W,
-) -> Result<Exit, WriteFault> {
+) -> Result<Exit, WriteFault>
+    ensures { WritesLine (TellsSent (send_bytes desk_key.now key.now (texts_of words.now))
+        (I.remaining input.old) (O.contents output.old) (O.contents output.new))
+        (W.contents writer.old) (W.contents writer.new) result }
+{
     match write_send(alloc, output, desk_key, key, words) {
-        Ok(()) => {}
-        Err(SendFault::Memory) => return out_of_memory(writer),
-        Err(SendFault::Write) => return no_network(writer),
-    }
-    match read_answer(alloc, input) {
-        Ok(answer) => tell_answer(writer, answer.status, answer.body.as_str()),
-        Err(AnswerFault::Memory) => out_of_memory(writer),
-        Err(AnswerFault::Malformed | AnswerFault::Read) => no_network(writer),
+        Ok(()) => receive(alloc, input, writer),
+        Err(SendFault::Memory) => out_of_memory(writer),
+        Err(SendFault::Write) => no_network(writer),
     }
 }
