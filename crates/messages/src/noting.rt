@@ -1,5 +1,8 @@
 //! A writer that remembers one of the lines written.
 
+ghost use Rattle.std.specs.Prelude.{◌≡◌};
+ghost use Rattle.messages.specs.Noting.{writer_of};
+
 use std::io::{self, Write};
 
 /// How many bytes of a line are kept.
@@ -46,27 +49,21 @@ impl ToldLine {
     }
 }
 
-/// A writer that keeps the last line about a refusal, a fault or words not understood.
+/// The lines of what went out.
 #[derive(Drop)]
-pub struct Noting<W> {
-    writer: W,
+struct Notes {
+    /// The one that has not ended.
     line: ToldLine,
+    /// The last one about a refusal, a fault or words not understood.
     told: ToldLine,
 }
 
-impl<W> Noting<W> {
-    /// Makes a writer that has kept nothing.
-    pub fn new(writer: W) -> Noting<W> {
-        Noting {
-            writer,
+impl Notes {
+    fn new() -> Notes {
+        Notes {
             line: ToldLine::new(),
             told: ToldLine::new(),
         }
-    }
-
-    /// Returns the kept line, or an empty one.
-    pub fn told(&self) -> ToldLine {
-        self.told
     }
 
     fn note(&mut self, bytes: &[u8]) {
@@ -83,10 +80,37 @@ impl<W> Noting<W> {
     }
 }
 
+/// A writer that keeps the last line about a refusal, a fault or words not understood. What it
+/// holds is what the other writer holds.
+#[derive(Drop)]
+pub struct Noting<W> {
+    writer: W,
+    notes: Notes,
+}
+
+impl<W> Noting<W> {
+    /// Makes a writer that has kept nothing.
+    pub fn new(writer: W) -> Noting<W>
+        ensures { writer_of result ≡ writer }
+    {
+        Noting {
+            writer,
+            notes: Notes::new(),
+        }
+    }
+
+    /// Returns the kept line, or an empty one.
+    pub fn told(&self) -> ToldLine {
+        self.notes.told
+    }
+}
+
 impl<W: Write> Write for Noting<W> {
+    ghost contents = { λ noting. W.contents (writer_of noting) };
+
     fn write(&mut self, buf: &[u8]) -> io::Result<usize> {
         let count = self.writer.write(buf)?;
-        self.note(buf.get(..count).unwrap_or(buf));
+        self.notes.note(buf.get(..count).unwrap_or(buf));
         Ok(count)
     }
 
