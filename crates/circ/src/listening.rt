@@ -87,11 +87,7 @@ pub struct Port {
 }
 
 /// Shares a listener among so many workers.
-pub(crate) fn ports(
-    alloc: Global,
-    listener: TcpListener,
-    count: usize,
-) -> Result<Vec<Port>, Memory>
+pub(crate) fn ports(alloc: Global, listener: TcpListener, count: usize) -> Result<Vec<Port>, Memory>
     ensures { IfOk result (λ ports. length ports.items ≡ count) }
 {
     let listener = Arc::new(alloc, listener)?;

@@ -443,16 +443,7 @@ fn serve_hall<
             (desk, tell_end(writer, are_whole, fault))
         }
         Err(fault) => {
-            let (desk, _, _) = run_all(
-                rt,
-                alloc,
-                watch,
-                side,
-                workers,
-                connections,
-                desk_key,
-                0,
-            );
+            let (desk, _, _) = run_all(rt, alloc, watch, side, workers, connections, desk_key, 0);
             (desk, Err(fault))
         }
     }

@@ -61,11 +61,14 @@ void-page H patron card_key v = go (is_known H (FromPatron patron card_key)) ref
   where
     asks : Request
     asks = record { caller = FromPatron patron card_key; key = []; command = Page patron }
+
     by : Bool → Reply
     by known = elim known [ true ↦ answer_to H (Patron patron) (Page patron) | false ↦ Refused NotAllowed ]
+
     refused : reply_to H asks ≡ Refused NotAllowed
     refused = subst (λ (K : History). reply_to K asks ≡ Refused NotAllowed) (sym v.list_is)
         (old-key-void v.set v.before v.later patron v.new_key card_key [] (Page patron) v.accepted v.sets v.last v.differs)
+
     go : (known : Bool) → is_known H (FromPatron patron card_key) ≡ known → page_for H patron card_key ≡ Refused NotAllowed
     go false e = ap by e
     go true e = ap by e ∙ sym (reply-page H asks (allowed-both H (FromPatron patron card_key) (Page patron) e (eq-eqb patron patron refl)) refl) ∙ refused
