@@ -1,7 +1,7 @@
 -- Whoever is named as touched is.
-use Rattle.std.proofs.Common.{◌≡◌, ℕ, List, [], ◌++◌, ◌⊎◌, inl, inr, subst}
-use Rattle.std.specs.Prelude.{Result, Ok, Err, OnOk}
-use Rattle.store.specs.Library.{Ghosts, Held, IsClean, state}
+use Rattle.std.proofs.Common.{◌≡◌, ℕ, List, ◌++◌, ◌⊎◌, inl, inr, subst}
+use Rattle.std.specs.Prelude.{Result, Ok, Err}
+use Rattle.store.specs.Library.{Ghosts, Held, IsClean}
 use Rattle.terms.specs.declared.command.Command.{Command}
 use Rattle.terms.specs.declared.fault.Fault.{Fault}
 use Rattle.terms.specs.declared.reply.Reply.{Reply}
@@ -12,7 +12,7 @@ use Rattle.circ_core.specs.declared.views.View.{View}
 use Rattle.model.specs.History.{History}
 use Rattle.model.specs.Picture.{picture}
 use Rattle.model.specs.Requests.{IsLegal}
-use Rattle.desk.specs.Answering.{LearnsIf, NamesIf, Shows}
+use Rattle.desk.specs.Answering.{LearnsIf, NamesIf}
 use Rattle.desk.specs.Touching.{AreExactly, IsAmong, IsReaderFor, IsTouched, patrons_put}
 use Rattle.desk.proofs.Looking.{IsAnyList}
 use Rattle.desk.proofs.TitleReaders.{among-either}
