@@ -23,7 +23,7 @@ use desk::Desk;
 use hall::{DeskSide, Ended, Hall, HallFault, Left, Opened, Opening, Watch, Why, Worker};
 use sqlite::Alter;
 use std::alloc::Global;
-use std::io::Write;
+use std::io::{Read, Write};
 use std::marker::Brand;
 use std::net::{TcpListener, TcpStream};
 use std::snapshot::Snapshot;
@@ -572,9 +572,10 @@ pub fn serve<S: Alter, W: Write, R: Threads + Wait + Copy + Send + 'static, N: W
     web: Web,
     writer: &mut W,
 ) -> (Desk<S>, Result<Exit, WriteFault>)
-    ensures { ServesListener Port.comes Port.goes Port.misses TcpStream.remaining
-        Outgoing.contents web.desk_key web.each web.port workers S.Store desk result.0
-        (W.contents writer.old) (W.contents writer.new) result.1 }
+    ensures { ServesListener ⟦<Port as Connections>⟧.comes ⟦<Port as Connections>⟧.goes
+        ⟦<Port as Connections>⟧.misses ⟦<TcpStream as Read>⟧.remaining
+        ⟦<Outgoing as Write>⟧.contents web.desk_key web.each web.port workers S.Store
+        desk result.0 (W.contents writer.old) (W.contents writer.new) result.1 }
 {
     match ports(alloc, listener, workers) {
         Ok(ports) => {
