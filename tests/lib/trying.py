@@ -69,12 +69,17 @@ class Change:
         return f"{self.function}_twice{self.number}" if self.number else self.function
 
 
+# What a check says of a closure that is proved: it may only be called where what it asks is given.
+ASKING = "proved where its callers give what it asks"
+
+
 class Check:
     """What a check said: of each function of the crate its outcome, and which have a goal of their own that isn't proved."""
 
     def __init__(self, crate, status, text):
         self.status, self.text = status, text
-        self.told = dict(re.findall(rf"^fn {crate}::(\S+): (.*?)(?:, may [a-z]+)?$", text, re.M))
+        told = re.findall(rf"^fn {crate}::(\S+): (.*?)(?:, may [a-z]+)?$", text, re.M)
+        self.told = {function: "proved" if said == ASKING else said for function, said in told}
         lines = text.rstrip("\n").split("\n")
         self.ended = bool(re.match(r"only=\d+ proved=|logic=(not-)?proved", lines[-1]))
         self.unknown = re.findall(r"has no function `(\S+)`", text)
