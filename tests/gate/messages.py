@@ -67,7 +67,7 @@ def words_of_commands(path):
     for name, forms in WORDS.items():
         asks(["file", path, "k1", name, "-"], NOT_UNDERSTOOD)
         # one command is its name alone
-        asks(["file", path, "k1", name], NOT_UNDERSTOOD if forms else "today 2000-01-01\n")
+        asks(["file", path, "k1", name], NOT_UNDERSTOOD if forms else "today 2026-03-02\n")
         asks(["file", path, "k1", name, *["1"] * 9], NOT_UNDERSTOOD)
         asks(["send", "8080", "desk key", "k1", name], NOT_UNDERSTOOD)
         given = [RIGHT[it] for it in forms]
