@@ -5,6 +5,7 @@ use Rattle.terms.specs.declared.row.BranchRow.{BranchRow}
 use Rattle.terms.specs.declared.command.Owner.TheVariants.{Desk}
 use Rattle.terms.specs.declared.command.Command.TheVariants.{AmendBranch}
 use Rattle.terms.specs.declared.reply.Reply.TheVariants.{Done}
+use Rattle.terms.specs.declared.refusal.Refusal.TheVariants as check
 use Rattle.model.specs.History.{History, BranchFacts, branch_of, with_pickup}
 use Rattle.model.specs.Refusals.{checks}
 use Rattle.model.specs.Picture.{picture, branch_row, branch_columns}
@@ -27,5 +28,5 @@ module _ (H : History) (b pickup : ℕ) (name : List ℕ) where
   amend_branch_meets row w = record {
     same = (refl, refl, λ _. (refl, (ap is_none w ∙ none-map (branch_columns H b) (branch_of H b)), λ _. tt));
     due = λ _. refl;
-    leads = λ ok owner key. rw w (amend_branch_leads (branch_of H b) refl (passed (checks H Desk (AmendBranch b pickup name)) ok).1.0 owner key);
+    leads = λ ok owner key. rw w (amend_branch_leads (branch_of H b) refl (passed (checks H Desk (AmendBranch b pickup name)) ok check.UnknownBranch) owner key);
   }

@@ -5,6 +5,7 @@ use Rattle.terms.specs.declared.row.CopyRow.{CopyRow}
 use Rattle.terms.specs.declared.command.Owner.TheVariants.{Desk}
 use Rattle.terms.specs.declared.command.Command.TheVariants.{AmendCopy}
 use Rattle.terms.specs.declared.reply.Reply.TheVariants.{Done}
+use Rattle.terms.specs.declared.refusal.Refusal.TheVariants as check
 use Rattle.model.specs.History.{History, CopyFacts, copy_of, with_price}
 use Rattle.model.specs.Refusals.{checks}
 use Rattle.model.specs.Picture.{picture, copy_row, copy_columns}
@@ -26,5 +27,5 @@ module _ (H : History) (c k price : ℕ) where
   amend_copy_meets row w = record {
     same = (refl, refl, λ _. (refl, (ap is_none w ∙ none-map (copy_columns H c) (copy_of H c)), λ _. tt));
     due = λ _. refl;
-    leads = λ ok owner key. rw w (amend_copy_leads (copy_of H c) refl (passed (checks H Desk (AmendCopy c k price)) ok).1.0 owner key);
+    leads = λ ok owner key. rw w (amend_copy_leads (copy_of H c) refl (passed (checks H Desk (AmendCopy c k price)) ok check.UnknownCopy) owner key);
   }

@@ -5,6 +5,7 @@ use Rattle.terms.specs.declared.row.PatronRow.{PatronRow}
 use Rattle.terms.specs.declared.command.Owner.TheVariants.{Desk}
 use Rattle.terms.specs.declared.command.Command.TheVariants.{SetCardKey, AmendPatron}
 use Rattle.terms.specs.declared.reply.Reply.TheVariants.{Done}
+use Rattle.terms.specs.declared.refusal.Refusal.TheVariants as check
 use Rattle.model.specs.History.{History, kind_of, PatronFacts, patron_of, with_card_key, with_kind}
 use Rattle.model.specs.Refusals.{checks}
 use Rattle.model.specs.Picture.{picture, kind_columns, patron_row, patron_columns}
@@ -29,7 +30,7 @@ module _ (H : History) (p : ℕ) where
   card_key_meets card_key row w = record {
     same = (refl, (ap is_none w ∙ none-map (patron_columns H p) (patron_of H p)), λ _. tt);
     due = λ _. refl;
-    leads = λ ok owner key. rw w (card_key_leads card_key (patron_of H p) refl (passed (checks H Desk (SetCardKey p card_key)) ok).0 owner key);
+    leads = λ ok owner key. rw w (card_key_leads card_key (patron_of H p) refl (passed (checks H Desk (SetCardKey p card_key)) ok check.UnknownPatron) owner key);
   }
 
   amend_patron_leads : (k : ℕ) (name : List ℕ) (o : Option PatronFacts) → patron_of H p ≡ o → not (is_some o) ≡ false
@@ -52,5 +53,5 @@ module _ (H : History) (p : ℕ) where
       ),
     );
     due = λ _. refl;
-    leads = λ ok owner key. rw w.patron (amend_patron_leads k name (patron_of H p) refl (passed (checks H Desk (AmendPatron p k name)) ok).1.0 owner key);
+    leads = λ ok owner key. rw w.patron (amend_patron_leads k name (patron_of H p) refl (passed (checks H Desk (AmendPatron p k name)) ok check.UnknownPatron) owner key);
   }

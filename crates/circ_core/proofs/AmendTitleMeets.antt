@@ -5,6 +5,7 @@ use Rattle.terms.specs.declared.row.TitleRow.{TitleRow}
 use Rattle.terms.specs.declared.command.Owner.TheVariants.{Desk}
 use Rattle.terms.specs.declared.command.Command.TheVariants.{AmendTitle}
 use Rattle.terms.specs.declared.reply.Reply.TheVariants.{Done}
+use Rattle.terms.specs.declared.refusal.Refusal.TheVariants as check
 use Rattle.model.specs.History.{History, title_of}
 use Rattle.model.specs.Refusals.{checks}
 use Rattle.model.specs.Picture.{picture, title_row}
@@ -27,5 +28,5 @@ module _ (H : History) (t : ℕ) (text : List ℕ) where
   amend_title_meets row w = record {
     same = (refl, (ap is_none w ∙ is_none-map (title_columns t) (title_of H t)), λ _. tt);
     due = λ _. refl;
-    leads = λ ok owner key. rw w (amend_title_leads (title_of H t) refl (passed (checks H Desk (AmendTitle t text)) ok).0 owner key);
+    leads = λ ok owner key. rw w (amend_title_leads (title_of H t) refl (passed (checks H Desk (AmendTitle t text)) ok check.UnknownTitle) owner key);
   }

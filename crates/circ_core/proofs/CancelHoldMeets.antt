@@ -11,6 +11,7 @@ use Rattle.terms.specs.declared.row.HoldState.{HoldState}
 use Rattle.terms.specs.declared.row.HoldState.TheVariants.{Waiting, Ready, Filled, Cancelled, Expired}
 use Rattle.terms.specs.declared.row.TransitRow.{TransitRow}
 use Rattle.terms.specs.Pictures.{put}
+use Rattle.terms.specs.declared.refusal.Refusal.TheVariants as check
 use Rattle.model.specs.History.{History, copy_of, copies, HoldFacts, hold_of}
 use Rattle.model.specs.Places.{Place, Transit, place, state, is_kept_for, is_bound_for, is_waiting, place_let_go, limit, is_begun}
 use Rattle.model.specs.Refusals.{checks, has_hold}
@@ -191,8 +192,8 @@ module _ (H : History) (inv : Invariant H) (h : ℕ) (v : View) (w : IsCancelHol
     due = λ _. refl;
     leads = λ ok owner key.
         let k = passed (checks H Desk (CancelHold h)) ok in
-        let f : (f : HoldFacts) × (hold_of H h ≡ Some f) = known k.0 in
-        let waiting : state H h ≡ Some Waiting = waiting-is (state H h) (not-false _ k.1.0) in
+        let f : (f : HoldFacts) × (hold_of H h ≡ Some f) = known (k check.UnknownHold) in
+        let waiting : state H h ≡ Some Waiting = waiting-is (state H h) (not-false _ (k check.WrongHoldState)) in
         let row : v.hold ≡ Some (hold_columns H h Waiting f.0) = w.hold ∙ hold_row-from H h Waiting f.0 waiting f.1 in
         rw row (lead H inv h f.0 f.1 v.transit w.transit owner key);
   }

@@ -1,4 +1,5 @@
 -- Check-in meets the history.
+use Rattle.terms.specs.declared.refusal.Refusal.TheVariants as check
 use Rattle.model.specs.Sights.{sight}
 use Rattle.std.proofs.Common.{◌≡◌, ℕ, ◌+◌, ◌==◌, Bool, true, false, not, List, [], ◌∷◌, ◌++◌, length, refl, sym, ◌∙◌, ap, subst, arith}
 use Rattle.std.specs.Prelude.{Option, Some, None, option_map, unwrap_or, is_none, is_some}
@@ -364,10 +365,10 @@ module _ (H : History) (legal : IsLegal H) (c b : ℕ) (v : View) (w : IsCheckIn
     same = check_in_same;
     due = λ ok.
         let p = passed (checks H Desk (CheckIn c b)) ok in
-        let r : (f : CopyFacts) × (copy_of H c ≡ Some f) = some-is (copy_of H c) p.1.0 in
-        reply_same p.0 r.0 r.1 p.1.1.0 p.1.1.1.0;
+        let r : (f : CopyFacts) × (copy_of H c ≡ Some f) = some-is (copy_of H c) (p check.UnknownCopy) in
+        reply_same (p check.UnknownBranch) r.0 r.1 (p check.CopyWithdrawn) (p check.OnHoldShelf);
     leads = λ ok.
         let p = passed (checks H Desk (CheckIn c b)) ok in
-        let r : (f : CopyFacts) × (copy_of H c ≡ Some f) = some-is (copy_of H c) p.1.0 in
-        check_in_leads p.0 r.0 r.1 p.1.1.0 p.1.1.1.0;
+        let r : (f : CopyFacts) × (copy_of H c ≡ Some f) = some-is (copy_of H c) (p check.UnknownCopy) in
+        check_in_leads (p check.UnknownBranch) r.0 r.1 (p check.CopyWithdrawn) (p check.OnHoldShelf);
   }

@@ -1,4 +1,5 @@
 -- Check-out meets the history.
+use Rattle.terms.specs.declared.refusal.Refusal.TheVariants as check
 use Rattle.model.specs.Sights.{sight}
 use Rattle.terms.specs.declared.limits.TheConstants.{LAST_NUMBER}
 use Rattle.std.proofs.Common.{◌≡◌, ℕ, ◌+◌, ◌-◌, ◌≤◌, ◌<◌, ◌==◌, nat_lt, nat_le, Bool, true, false, cond, not, ◌⊎◌, inl, inr, List, [], ◌∷◌}
@@ -389,11 +390,11 @@ module _ (H : History) (inv : Invariant H) (p c b : ℕ) (v : View) (w : IsCheck
   check_out_leads : refusal H Desk (CheckOut p c b) ≡ None → Leads H (CheckOut p c b) (check_out_rows v p c b due_now)
   check_out_leads ok owner key =
       let k = passed (checks H Desk (CheckOut p c b)) ok in
-      let q : (x : PatronFacts) × (patron_of H p ≡ Some x) = some-is (patron_of H p) k.1.0 in
-      let r : (x : CopyFacts) × (copy_of H c ≡ Some x) = some-is (copy_of H c) k.1.1.0 in
-      let st : Standing H p c b v.copy v.hold v.first = stands r.0 r.1 k.1.1.1.0 k.1.1.1.1.0 k.1.1.1.1.1.0 k.1.1.1.1.1.1.0 in
-      let fill : FillsAs H p c (filled_hold v.hold v.first) = st.fill k.1.1.1.1.1.1.1.1.0 k.1.1.1.1.1.1.1.1.1.0 in
-      rw (meta_same, loan_same q.0 q.1 r.0 r.1 k.0) (lead (filled_hold v.hold v.first) fill st.present st.still owner key)
+      let q : (x : PatronFacts) × (patron_of H p ≡ Some x) = some-is (patron_of H p) (k check.UnknownPatron) in
+      let r : (x : CopyFacts) × (copy_of H c ≡ Some x) = some-is (copy_of H c) (k check.UnknownCopy) in
+      let st : Standing H p c b v.copy v.hold v.first = stands r.0 r.1 (k check.CopyWithdrawn) (k check.CopyMissing) (k check.OnLoan) (k check.InTransit) in
+      let fill : FillsAs H p c (filled_hold v.hold v.first) = st.fill (k check.OnHoldShelf) (k check.HoldWaits) in
+      rw (meta_same, loan_same q.0 q.1 r.0 r.1 (k check.UnknownBranch)) (lead (filled_hold v.hold v.first) fill st.present st.still owner key)
 
   pub check_out_meets : Meets H (CheckOut p c b) (check_out_checks v p b) (Lent v.meta.next_loan (due_in v)) (check_out_rows v p c b (due_in v))
   check_out_meets = record {
@@ -405,7 +406,7 @@ module _ (H : History) (inv : Invariant H) (p c b : ℕ) (v : View) (w : IsCheck
       due_here : refusal H Desk (CheckOut p c b) ≡ None → due_in v ≡ due_now
       due_here ok =
           let k = passed (checks H Desk (CheckOut p c b)) ok in
-          let q : (x : PatronFacts) × (patron_of H p ≡ Some x) = some-is (patron_of H p) k.1.0 in
-          let r : (x : CopyFacts) × (copy_of H c ≡ Some x) = some-is (copy_of H c) k.1.1.0 in
+          let q : (x : PatronFacts) × (patron_of H p ≡ Some x) = some-is (patron_of H p) (k check.UnknownPatron) in
+          let r : (x : CopyFacts) × (copy_of H c ≡ Some x) = some-is (copy_of H c) (k check.UnknownCopy) in
           let t : (x : Terms) × (terms_for H p c ≡ Some x) = checked_out-terms H Desk p c b ok in
-          due_same q.0 q.1 r.0 r.1 k.0 (ap is_none t.1)
+          due_same q.0 q.1 r.0 r.1 (k check.UnknownBranch) (ap is_none t.1)

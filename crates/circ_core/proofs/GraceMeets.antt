@@ -6,6 +6,7 @@ use Rattle.terms.specs.declared.row.RuleRow.{RuleRow}
 use Rattle.terms.specs.declared.command.Owner.TheVariants.{Desk}
 use Rattle.terms.specs.declared.command.Command.TheVariants.{Grace}
 use Rattle.terms.specs.declared.reply.Reply.TheVariants.{Done}
+use Rattle.terms.specs.declared.refusal.Refusal.TheVariants as check
 use Rattle.model.specs.History.{History, Terms, with_grace, rule_of}
 use Rattle.model.specs.Refusals.{checks}
 use Rattle.model.specs.Picture.{picture, rule_row, rule_columns}
@@ -42,6 +43,6 @@ module _ (H : History) (k c days : ℕ) where
     same = (refl, refl, λ _. (refl, (ap is_none w ∙ is_none-map (rule_columns H k c) (rule_of H k c)), λ _. tt));
     due = λ _. refl;
     leads = λ ok owner key.
-        let t : (x : Terms) × (rule_of H k c ≡ Some x) = there-is (rule_of H k c) (passed (checks H Desk (Grace k c days)) ok).1.0 in
+        let t : (x : Terms) × (rule_of H k c ≡ Some x) = there-is (rule_of H k c) (passed (checks H Desk (Grace k c days)) ok check.NoRule) in
         rw (w, t.1) (leads_ruled t.0 t.1 owner key);
   }

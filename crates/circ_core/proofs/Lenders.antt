@@ -5,6 +5,7 @@ use Rattle.std.specs.Option.{option_or}
 use Rattle.terms.specs.declared.command.Owner.{Owner}
 use Rattle.terms.specs.declared.command.Command.{Command}
 use Rattle.terms.specs.declared.command.Command.TheVariants.{Branch, AmendBranch, CheckOut}
+use Rattle.terms.specs.declared.refusal.Refusal.TheVariants as check
 use Rattle.model.specs.History.{History, today, branch_of, branch_after, PatronFacts, patron_of, CopyFacts, copy_of, next_loan}
 use Rattle.model.specs.Places.{Nowhere, Loan}
 use Rattle.model.specs.Loans.{LoanFacts, loan_of, loan_after, ended, terms_for, no_terms}
@@ -37,7 +38,7 @@ module _ (H : History) (lenders : HaveLenders H) (o : Owner) where
   step (CheckOut p n b) ok l r e none = go (next_loan H == l) e
     where
       there : not (has_branch H b) ≡ false
-      there = (passed (checks H o (CheckOut p n b)) ok).0
+      there = (passed (checks H o (CheckOut p n b)) ok check.UnknownBranch)
 
       go : (x : Bool) → cond x (Some
           (record { copy = n; patron = p; branch = b; made = today H; terms = unwrap_or (terms_for H p n) no_terms }))

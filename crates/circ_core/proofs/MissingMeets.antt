@@ -1,4 +1,5 @@
 -- Missing meets the history.
+use Rattle.terms.specs.declared.refusal.Refusal.TheVariants as check
 use Rattle.model.specs.Sights.{sight}
 use Rattle.std.proofs.Common.{◌≡◌, ℕ, ◌+◌, false, List, [], ◌∷◌, ◌++◌, length, length-append, refl, sym, ◌∙◌, ap}
 use Rattle.std.specs.Prelude.{Option, Some, None, option_map, unwrap_or, is_none, is_some}
@@ -211,6 +212,6 @@ module _ (H : History) (legal : IsLegal H) (inv : Invariant H) (c : ℕ) (v : Vi
   pub missing_meets : Meets H (Missing c) (missing_checks v) (missing_reply v) (missing_rows v)
   missing_meets = record {
     same = missing_same;
-    due = λ ok. let r : (x : CopyFacts) × (copy_of H c ≡ Some x) = some-is (copy_of H c) (passed (checks H Desk (Missing c)) ok).0 in missing_due r.0 r.1;
-    leads = λ ok. let r : (x : CopyFacts) × (copy_of H c ≡ Some x) = some-is (copy_of H c) (passed (checks H Desk (Missing c)) ok).0 in missing_leads r.0 r.1;
+    due = λ ok. let r : (x : CopyFacts) × (copy_of H c ≡ Some x) = some-is (copy_of H c) (passed (checks H Desk (Missing c)) ok check.UnknownCopy) in missing_due r.0 r.1;
+    leads = λ ok. let r : (x : CopyFacts) × (copy_of H c ≡ Some x) = some-is (copy_of H c) (passed (checks H Desk (Missing c)) ok check.UnknownCopy) in missing_leads r.0 r.1;
   }

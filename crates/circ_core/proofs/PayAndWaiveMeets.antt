@@ -14,6 +14,7 @@ use Rattle.terms.specs.declared.command.Command.TheVariants.{Pay, Waive}
 use Rattle.terms.specs.declared.command.Owner.TheVariants.{Desk}
 use Rattle.terms.specs.declared.reply.Reply.TheVariants.{Owed}
 use Rattle.terms.specs.Pictures.{put}
+use Rattle.terms.specs.declared.refusal.Refusal.TheVariants as check
 use Rattle.model.specs.History.{History, today, PatronFacts, patron_of}
 use Rattle.model.specs.Accounts.{Line, lines, next_line, account, charge, credit, charges, credits, owed}
 use Rattle.model.specs.Refusals.{checks, has_patron}
@@ -158,19 +159,19 @@ module _ (H : History) (p : ℕ) (rows : View) (w : IsAccountView (picture H) p 
   pub pay_meets : (n : ℕ) → Meets H (Pay p n) (settle_checks rows n) (Owed (owed_by rows.patron - n)) (settle_rows rows p Payment n)
   pay_meets n = record {
     same = settle_same n;
-    due = λ ok. ap (λ x. Owed (x - n)) (owed_same (passed (checks H Desk (Pay p n)) ok).0);
+    due = λ ok. ap (λ x. Owed (x - n)) (owed_same (passed (checks H Desk (Pay p n)) ok check.UnknownPatron));
     leads = λ ok owner key.
         let k = passed (checks H Desk (Pay p n)) ok in
-        let r : (r : PatronFacts) × (patron_of H p ≡ Some r) = some-is (patron_of H p) k.0 in
-        rw (w.meta, patron_is r.0 r.1) (pay_lead r.0 r.1 n (or_parts _ _ k.1.0).0 owner key);
+        let r : (r : PatronFacts) × (patron_of H p ≡ Some r) = some-is (patron_of H p) (k check.UnknownPatron) in
+        rw (w.meta, patron_is r.0 r.1) (pay_lead r.0 r.1 n (or_parts _ _ (k check.BadAmount)).0 owner key);
   }
 
   pub waive_meets : (n : ℕ) → Meets H (Waive p n) (settle_checks rows n) (Owed (owed_by rows.patron - n)) (settle_rows rows p Waiver n)
   waive_meets n = record {
     same = settle_same n;
-    due = λ ok. ap (λ x. Owed (x - n)) (owed_same (passed (checks H Desk (Waive p n)) ok).0);
+    due = λ ok. ap (λ x. Owed (x - n)) (owed_same (passed (checks H Desk (Waive p n)) ok check.UnknownPatron));
     leads = λ ok owner key.
         let k = passed (checks H Desk (Waive p n)) ok in
-        let r : (r : PatronFacts) × (patron_of H p ≡ Some r) = some-is (patron_of H p) k.0 in
-        rw (w.meta, patron_is r.0 r.1) (waive_lead r.0 r.1 n (or_parts _ _ k.1.0).0 owner key);
+        let r : (r : PatronFacts) × (patron_of H p ≡ Some r) = some-is (patron_of H p) (k check.UnknownPatron) in
+        rw (w.meta, patron_is r.0 r.1) (waive_lead r.0 r.1 n (or_parts _ _ (k check.BadAmount)).0 owner key);
   }

@@ -8,6 +8,7 @@ use Rattle.terms.specs.declared.command.Command.TheVariants.{Rehome}
 use Rattle.terms.specs.declared.reply.Reply.TheVariants.{Done}
 use Rattle.terms.specs.declared.row.TransitRow.{TransitRow}
 use Rattle.terms.specs.Pictures.{put}
+use Rattle.terms.specs.declared.refusal.Refusal.TheVariants as check
 use Rattle.model.specs.History.{History, branch_of, CopyFacts, copy_of, with_home, hold_of}
 use Rattle.model.specs.Places.{Place, Nowhere, Shelf, HoldShelf, Transit, Loan, MissingCopy, WithdrawnCopy, place, state, limit}
 use Rattle.model.specs.Refusals.{checks, is_withdrawn, is_missing, is_on_loan, is_in_transit, is_on_hold_shelf}
@@ -142,6 +143,6 @@ module _ (H : History) (inv : Invariant H) (c b : ℕ) (v : View) (w : IsRehomeV
     due = λ _. refl;
     leads = λ ok owner key.
         let k = passed (checks H Desk (Rehome c b)) ok in
-        let r : (x : CopyFacts) × (copy_of H c ≡ Some x) = some-is (copy_of H c) k.1.0 in
-        rehome_leads_on r.0 r.1 k.1.1.0 owner key;
+        let r : (x : CopyFacts) × (copy_of H c ≡ Some x) = some-is (copy_of H c) (k check.UnknownCopy) in
+        rehome_leads_on r.0 r.1 (k check.CopyWithdrawn) owner key;
   }

@@ -1,4 +1,5 @@
 -- Renewal meets the history.
+use Rattle.terms.specs.declared.refusal.Refusal.TheVariants as check
 use Rattle.model.specs.Sights.{sight}
 use Rattle.std.proofs.Common.{◌≡◌, ℕ, ◌+◌, ◌-◌, ◌==◌, nat_lt, Bool, true, false, cond, not, List, ◌∷◌, refl, sym, ◌∙◌, ap, subst, arith}
 use Rattle.std.specs.Prelude.{Option, Some, None, option_map, option_and_then, unwrap_or, is_none, is_some}
@@ -178,8 +179,8 @@ module _ (H : History) (legal : IsLegal H) (inv : Invariant H) (l : ℕ) (v : Vi
   day_same : refusal H Desk (Renew l) ≡ None → renewed_due_in v ≡ unwrap_or (renewed_due H l (due H l)) 0
   day_same ok =
       let k = passed (checks H Desk (Renew l)) ok in
-      let r : (r : LoanFacts) × (loan_of H l ≡ Some r) = made-is (unknown_same ∙ k.0) in
-      same_day (renewed_due_day v) v.meta.today 0 (ap is_none (due_is r.0 r.1) ∙ k.1.1.1.1.1.1.0) ∙ ap (λ o. unwrap_or o 0) (due_is r.0 r.1)
+      let r : (r : LoanFacts) × (loan_of H l ≡ Some r) = made-is (unknown_same ∙ (k check.UnknownLoan)) in
+      same_day (renewed_due_day v) v.meta.today 0 (ap is_none (due_is r.0 r.1) ∙ (k check.PastCalendar)) ∙ ap (λ o. unwrap_or o 0) (due_is r.0 r.1)
 
   pub renew_meets : Meets H (Renew l) (renew_checks v) (Lent l (renewed_due_in v)) (renewed_rows v.loan (renewed_due_in v))
   renew_meets = record {
@@ -187,8 +188,8 @@ module _ (H : History) (legal : IsLegal H) (inv : Invariant H) (l : ℕ) (v : Vi
     due = λ ok. ap (λ d. Lent l d) (day_same ok);
     leads = λ ok owner key.
         let k = passed (checks H Desk (Renew l)) ok in
-        let r : (r : LoanFacts) × (loan_of H l ≡ Some r) = made-is (unknown_same ∙ k.0) in
-        let found : (d : ℕ) × (renewed_due H l (due H l) ≡ Some d) = there-is (renewed_due H l (due H l)) k.1.1.1.1.1.1.0 in
+        let r : (r : LoanFacts) × (loan_of H l ≡ Some r) = made-is (unknown_same ∙ (k check.UnknownLoan)) in
+        let found : (d : ℕ) × (renewed_due H l (due H l) ≡ Some d) = there-is (renewed_due H l (due H l)) (k check.PastCalendar) in
         let day : renewed_due_in v ≡ found.0 = day_same ok ∙ ap (λ o. unwrap_or o 0) found.1 in
         rw day (leads_at r.0 r.1 found.0 found.1 owner key);
   }

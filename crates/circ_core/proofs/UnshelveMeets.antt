@@ -11,6 +11,7 @@ use Rattle.terms.specs.declared.row.HoldState.TheVariants.{Waiting, Ready, Fille
 use Rattle.terms.specs.declared.row.KeptRow.{KeptRow}
 use Rattle.terms.specs.declared.command.Owner.{Owner}
 use Rattle.terms.specs.Pictures.{Picture, put}
+use Rattle.terms.specs.declared.refusal.Refusal.TheVariants as check
 use Rattle.model.specs.History.{History, today, HoldFacts, hold_of, CopyFacts, copy_of, copies}
 use Rattle.model.specs.Places.{Place, Nowhere, HoldShelf, place, state, line, is_ready, is_kept_for, kept_for, route, route_from, route_to}
 use Rattle.model.specs.Places.{limit, limit_now, limit_at, unshelved_to, place_unshelved, state_unshelved, goal_of, home_of, title_of_copy}
@@ -356,14 +357,14 @@ module _ (H : History) (legal : IsLegal H) (g : ℕ) (v : View) (w : IsUnshelveV
   pub unshelve_meets : Meets H (Unshelve g) (unshelve_checks v) (unshelve_reply v (next_limit v)) (unshelve_rows v Expired (next_limit v))
   unshelve_meets = record {
     same = expired_same;
-    due = λ ok. let p = passed (checks H Desk (Unshelve g)) ok in let k : IsThere Ready = stands_ready p.0 p.1.0 in reply_same k (on_shelf k);
-    leads = λ ok. let p = passed (checks H Desk (Unshelve g)) ok in let k : IsThere Ready = stands_ready p.0 p.1.0 in expired_lead k (on_shelf k);
+    due = λ ok. let p = passed (checks H Desk (Unshelve g)) ok in let k : IsThere Ready = stands_ready (p check.UnknownHold) (p check.WrongHoldState) in reply_same k (on_shelf k);
+    leads = λ ok. let p = passed (checks H Desk (Unshelve g)) ok in let k : IsThere Ready = stands_ready (p check.UnknownHold) (p check.WrongHoldState) in expired_lead k (on_shelf k);
   }
 
   pub unshelve_cancelled_meets : Meets H (UnshelveCancelled g) (unshelve_cancelled_checks v) (unshelve_reply v (next_limit v))
       (unshelve_rows v Cancelled (next_limit v))
   unshelve_cancelled_meets = record {
     same = cancelled_same;
-    due = λ ok. let p = passed (checks H Desk (UnshelveCancelled g)) ok in let k : IsThere Ready = stands_ready p.0 p.1.0 in reply_same k (on_shelf k);
-    leads = λ ok. let p = passed (checks H Desk (UnshelveCancelled g)) ok in let k : IsThere Ready = stands_ready p.0 p.1.0 in cancelled_lead k (on_shelf k);
+    due = λ ok. let p = passed (checks H Desk (UnshelveCancelled g)) ok in let k : IsThere Ready = stands_ready (p check.UnknownHold) (p check.WrongHoldState) in reply_same k (on_shelf k);
+    leads = λ ok. let p = passed (checks H Desk (UnshelveCancelled g)) ok in let k : IsThere Ready = stands_ready (p check.UnknownHold) (p check.WrongHoldState) in cancelled_lead k (on_shelf k);
   }

@@ -6,6 +6,7 @@ use Rattle.std.proofs.lemmas.Bool.{eqb-true}
 use Rattle.terms.specs.declared.row.BranchRow.{BranchRow}
 use Rattle.terms.specs.declared.command.Command.TheVariants.{Week}
 use Rattle.terms.specs.declared.reply.Reply.TheVariants.{Done}
+use Rattle.terms.specs.declared.refusal.Refusal.TheVariants as check
 use Rattle.model.specs.History.{History, week_of, BranchFacts, branch_of}
 use Rattle.model.specs.Refusals.{checks}
 use Rattle.model.proofs.Passing.{passed}
@@ -46,5 +47,5 @@ module _ (H : History) (b : ℕ) (closed : List Bool) where
   week_meets row w = record {
     same = (refl, (ap is_none w ∙ none-map (branch_columns H b) (branch_of H b)), λ _. (refl, none_open closed, λ _. tt));
     due = λ _. refl;
-    leads = λ ok owner key. rw w (week_leads (branch_of H b) refl (passed (checks H Desk (Week b closed)) ok).0 owner key);
+    leads = λ ok owner key. rw w (week_leads (branch_of H b) refl (passed (checks H Desk (Week b closed)) ok check.UnknownBranch) owner key);
   }

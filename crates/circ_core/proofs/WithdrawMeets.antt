@@ -4,6 +4,7 @@ use Rattle.std.specs.Prelude.{◌∷◌, Some, option_map, is_none}
 use Rattle.terms.specs.declared.command.Owner.TheVariants.{Desk}
 use Rattle.terms.specs.declared.command.Command.TheVariants.{Withdraw}
 use Rattle.terms.specs.declared.reply.Reply.TheVariants.{Done}
+use Rattle.terms.specs.declared.refusal.Refusal.TheVariants as check
 use Rattle.model.specs.History.{History, CopyFacts, copy_of}
 use Rattle.model.specs.Places.{WithdrawnCopy, place}
 use Rattle.model.specs.Refusals.{checks}
@@ -51,10 +52,10 @@ module _ (H : History) (inv : Invariant H) (c : ℕ) (v : View) (w : IsCopyView 
     due = λ _. refl;
     leads = λ ok owner key.
         let k = passed (checks H Desk (Withdraw c)) ok in
-        let r : (x : CopyFacts) × (copy_of H c ≡ Some x) = some-is (copy_of H c) k.0 in
+        let r : (x : CopyFacts) × (copy_of H c ≡ Some x) = some-is (copy_of H c) (k check.UnknownCopy) in
         rw (copy_is r.0 r.1) (λ i. record (picture (event owner key (Withdraw c) ∷ H)) {
           copies = λ n. copies_gone H c WithdrawnCopy refl refl r.0 r.1 n i;
-          holds = λ n. (holds_stay H c WithdrawnCopy refl refl n (unkept (place H c) n k.1.1.1.1.0)) i;
-          transits = λ n. transits_still H c WithdrawnCopy refl refl k.1.1.1.0 n i;
+          holds = λ n. (holds_stay H c WithdrawnCopy refl refl n (unkept (place H c) n (k check.OnHoldShelf))) i;
+          transits = λ n. transits_still H c WithdrawnCopy refl refl (k check.InTransit) n i;
         });
   }

@@ -10,6 +10,7 @@ use Rattle.terms.specs.declared.row.Sort.TheVariants.{Fine, Price}
 use Rattle.terms.specs.declared.command.Command.{Command}
 use Rattle.terms.specs.declared.command.Command.TheVariants.{SetCardKey, AmendPatron}
 use Rattle.terms.specs.declared.command.Command.TheVariants.{Patron, CheckOut}
+use Rattle.terms.specs.declared.refusal.Refusal.TheVariants as check
 use Rattle.model.specs.History.{History, today, patron_of, patron_after, next_loan}
 use Rattle.model.specs.Places.{Place, Loan, place}
 use Rattle.model.specs.Loans.{LoanFacts, loan_of, loan_after, ended, grace_of, terms_for, no_terms}
@@ -47,7 +48,7 @@ module _ (H : History) (inv : AccountLaws H) (loans_ok : LoanLaws H) (o : Owner)
   borrowers-step (CheckOut p n b) ok l r e none = go (next_loan H == l) e
     where
       k : not (has_patron H p) ≡ false
-      k = (passed (checks H o (CheckOut p n b)) ok).1.0
+      k = (passed (checks H o (CheckOut p n b)) ok check.UnknownPatron)
 
       go : (x : Bool) → cond x (Some
           (record { copy = n; patron = p; branch = b; made = today H; terms = unwrap_or (terms_for H p n) no_terms }))

@@ -11,6 +11,7 @@ use Rattle.terms.specs.declared.row.HoldState.TheVariants.{Waiting, Ready, Fille
 use Rattle.terms.specs.declared.command.Command.{Command}
 use Rattle.terms.specs.declared.command.Command.TheVariants.{AmendCopy, Rehome}
 use Rattle.terms.specs.declared.command.Command.TheVariants.{Acquire, CheckOut, CheckIn, CancelHold, Unshelve, UnshelveCancelled, Missing, Withdraw}
+use Rattle.terms.specs.declared.refusal.Refusal.TheVariants as check
 use Rattle.model.specs.History.{Event, History, copy_of, CopyFacts, copies, copies_after, copy_after, holds, holds_after, next_hold}
 use Rattle.model.specs.History.{HoldFacts, hold_made, hold_of, hold_after, numbers_to, with_price, with_home}
 use Rattle.model.specs.Places.{Place, Nowhere, Shelf, HoldShelf, Transit, Loan, MissingCopy, WithdrawnCopy, place, state, place_after}
@@ -238,7 +239,7 @@ BoundAfter H o k c = Bound (goal_of (event o k c ∷ H)) (place (event o k c ∷
 
 check_in-bound : (H : History) (o : Owner) (k : List ℕ) (n b : ℕ) → IsBound H → refusal H o (CheckIn n b) ≡ None → BoundAfter H o k (CheckIn n b)
 check_in-bound H o k n b inv ok =
-    arrive-bound H n (route H n b) inv (route-goes H n b inv) (off_shelf H n (passed (checks H o (CheckIn n b)) ok).1.1.1.0)
+    arrive-bound H n (route H n b) inv (route-goes H n b inv) (off_shelf H n (passed (checks H o (CheckIn n b)) ok check.OnHoldShelf))
 
 -- ---- a copy leaves to a place where it serves no hold
 
@@ -305,7 +306,7 @@ check_out-bound H o k p n b inv = leave-bound H n _ Filled (λ h. fills_by H (pl
 withdraw-bound : (H : History) (o : Owner) (k : List ℕ) (n : ℕ) → IsBound H → refusal H o (Withdraw n) ≡ None → BoundAfter H o k (Withdraw n)
 withdraw-bound H o k n inv ok = leave-bound H n WithdrawnCopy Waiting (λ h. false) inv (λ h s. s) (λ e. cc)
     (λ d h e ne s. let never : ⊥ = cc in never)
-    (λ h at. absurd (off_shelf H n (passed (checks H o (Withdraw n)) ok).1.1.1.1.0 h at))
+    (λ h at. absurd (off_shelf H n (passed (checks H o (Withdraw n)) ok check.OnHoldShelf) h at))
 
 acquire-bound : (H : History) (o : Owner) (k : List ℕ) (n t kind home price : ℕ) (text : List ℕ) → IsBound H
     → BoundAfter H o k (Acquire n t kind home price text)
@@ -442,7 +443,7 @@ cancel-bound H o k g inv ok = record {
 }
   where
     waits : state H g ≡ Some Waiting
-    waits = waiting-is _ (not-false _ (passed (checks H o (CancelHold g)) ok).1.0)
+    waits = waiting-is _ (not-false _ (passed (checks H o (CancelHold g)) ok check.WrongHoldState))
 
     old : (c h : ℕ) → Serves (place_let_go H (place H) (state H) (is_begun H) g (place H c)) h → Fits (goal_of H) (place H c) h (state H h)
     old c h s = go (place H c) (inv.bound.fits c h) s
@@ -567,13 +568,13 @@ module _ (H : History) (g n : ℕ) (ends : HoldState) (inv : IsBound H) (at : pl
 
 unshelve-bound : (H : History) (o : Owner) (k : List ℕ) (g : ℕ) → IsBound H → refusal H o (Unshelve g) ≡ None → BoundAfter H o k (Unshelve g)
 unshelve-bound H o k g inv ok =
-    let on : (c : ℕ) × (place H c ≡ HoldShelf g) = inv.bound.kept g (ready-is _ (not-false _ (passed (checks H o (Unshelve g)) ok).1.0)) in
+    let on : (c : ℕ) × (place H c ≡ HoldShelf g) = inv.bound.kept g (ready-is _ (not-false _ (passed (checks H o (Unshelve g)) ok check.WrongHoldState))) in
     unshelved-bound H g on.0 Expired inv on.1 (λ e. cc)
 
 unshelve_cancelled-bound : (H : History) (o : Owner) (k : List ℕ) (g : ℕ) → IsBound H → refusal H o (UnshelveCancelled g) ≡ None
     → BoundAfter H o k (UnshelveCancelled g)
 unshelve_cancelled-bound H o k g inv ok =
-    let on : (c : ℕ) × (place H c ≡ HoldShelf g) = inv.bound.kept g (ready-is _ (not-false _ (passed (checks H o (UnshelveCancelled g)) ok).1.0)) in
+    let on : (c : ℕ) × (place H c ≡ HoldShelf g) = inv.bound.kept g (ready-is _ (not-false _ (passed (checks H o (UnshelveCancelled g)) ok check.WrongHoldState))) in
     unshelved-bound H g on.0 Cancelled inv on.1 (λ e. cc)
 
 moved-bound : (H : History) (o : Owner) (k : List ℕ) (c : Command) → IsBound H → refusal H o c ≡ None → BoundBy H c None

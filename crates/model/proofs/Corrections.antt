@@ -10,6 +10,7 @@ use Rattle.terms.specs.declared.command.Request.{Request}
 use Rattle.terms.specs.declared.refusal.Refusal.TheVariants.{NotAllowed}
 use Rattle.terms.specs.declared.reply.Reply.TheVariants.{Refused}
 use Rattle.terms.specs.Callers.{owner_of}
+use Rattle.terms.specs.declared.refusal.Refusal.TheVariants as check
 use Rattle.model.specs.History.{Event, History, PatronFacts, patron_of, patron_after, with_card_key, with_kind, copy_of, copies}
 use Rattle.model.specs.History.{with_price, with_home, hold_of}
 use Rattle.model.specs.Places.{Place, Shelf, Transit, place, state, limit, is_kept_for, kept_for}
@@ -151,7 +152,7 @@ module _ (e : Event) (H : History) (p : ℕ) (key : List ℕ) (legal : IsLegal (
   known : is_some (patron_of H p) ≡ true
   known =
       let unrefused : refusal H e.owner (SetCardKey p key) ≡ None = subst (λ c. refusal H e.owner c ≡ None) is legal.0.unrefused in
-      not-false _ (passed (checks H e.owner (SetCardKey p key)) unrefused).0
+      not-false _ (passed (checks H e.owner (SetCardKey p key)) unrefused check.UnknownPatron)
 
   key-kept : (later : History) → KeepsCardKey p later → HasKey key (patron_of (later ++ e ∷ H) p)
   key-kept [] keeps = subst (λ c. HasKey key (patron_after c p (patron_of H p))) (sym is) (key-set p key (p == p) (eq-eqb p p refl) (patron_of H p) known)

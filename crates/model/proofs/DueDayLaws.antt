@@ -6,6 +6,7 @@ use Rattle.std.proofs.lemmas.Bool.{eqb-true}
 use Rattle.terms.specs.declared.command.Owner.{Owner}
 use Rattle.terms.specs.declared.command.Command.{Command}
 use Rattle.terms.specs.declared.command.Command.TheVariants.{CheckOut, Renew}
+use Rattle.terms.specs.declared.refusal.Refusal.TheVariants as check
 use Rattle.model.specs.Calendar.{least, IsLeast}
 use Rattle.model.specs.History.{History, today, is_open, week_of, singles_of, BranchFacts, branch_of, Terms, rule_of, PatronFacts}
 use Rattle.model.specs.History.{patron_of, CopyFacts, copy_of, next_loan}
@@ -41,7 +42,7 @@ rule-of_terms H settings p c t e = go (patron_of H p) (copy_of H c) e
     go None y f = let never : ⊥ = cc in absurd never
 
 pub checked_out-terms : (H : History) (o : Owner) (p c b : ℕ) → refusal H o (CheckOut p c b) ≡ None → (t : Terms) × (terms_for H p c ≡ Some t)
-checked_out-terms H o p c b ok = none-not _ (passed (checks H o (CheckOut p c b)) ok).1.1.1.1.1.1.1.1.1.1.1.0
+checked_out-terms H o p c b ok = none-not _ (passed (checks H o (CheckOut p c b)) ok check.NoRule)
 
 pub first_due-is : (H : History) (o : Owner) (p c b : ℕ) → CalendarLaws H → refusal H o (CheckOut p c b) ≡ None → (e : ℕ) × (first_due H p c b ≡ Some e)
 first_due-is H o p c b inv ok =
@@ -118,7 +119,7 @@ renew-due : (H : History) (o : Owner) (n l : ℕ) (r : LoanFacts) → refusal H 
 renew-due H o n l r ok e before = go (n == l) refl
   where
     there : is_none (renewed_due H n (due H n)) ≡ false
-    there = (passed (checks H o (Renew n)) ok).1.1.1.1.1.1.0
+    there = (passed (checks H o (Renew n)) ok check.PastCalendar)
 
     go : (x : Bool) → (n == l) ≡ x
         → elim x as (λ _. Type 0) [

@@ -7,6 +7,7 @@ use Rattle.terms.specs.declared.row.HoldState.{HoldState}
 use Rattle.terms.specs.declared.row.HoldState.TheVariants.{Waiting, Ready, Filled, Cancelled, Expired}
 use Rattle.terms.specs.declared.command.Command.{Command}
 use Rattle.terms.specs.declared.command.Command.TheVariants.{CheckOut, CheckIn, CancelHold, Unshelve, UnshelveCancelled, Missing}
+use Rattle.terms.specs.declared.refusal.Refusal.TheVariants as check
 use Rattle.model.specs.History.{History, HoldFacts, hold_made, next_hold}
 use Rattle.model.specs.Places.{Place, HoldShelf, Shelf, place, state, line, route, is_kept_for, title_of_copy, goal_of, fills_from}
 use Rattle.model.specs.Places.{fills_by, fills_first, kept_for_by, state_unshelved, state_moved, state_made, is_begun}
@@ -79,13 +80,13 @@ module _ (H : History) (h : ℕ) (s : HoldState) (inv : IsBound H) (settled : Is
   moved-stays o (CheckOut p n b) ok = left-stays Filled (fills_by H (place H) (state H) (is_begun H) p n h) (λ e. fills-not n p (place H n) refl e)
   moved-stays o (CheckIn n b) ok = arrived-stays n b
   moved-stays o (CancelHold g) ok =
-      left-stays Cancelled (g == h) (λ e. not_waiting (rw (← eqb-true g h e) (waiting-is _ (not-false _ (passed (checks H o (CancelHold g)) ok).1.0))))
+      left-stays Cancelled (g == h) (λ e. not_waiting (rw (← eqb-true g h e) (waiting-is _ (not-false _ (passed (checks H o (CancelHold g)) ok check.WrongHoldState)))))
   moved-stays o (Unshelve g) ok =
       unshelved-stays g Expired (kept_for_by H (place H) (state H) (is_begun H) g)
-      (ready-is _ (not-false _ (passed (checks H o (Unshelve g)) ok).1.0))
+      (ready-is _ (not-false _ (passed (checks H o (Unshelve g)) ok check.WrongHoldState)))
   moved-stays o (UnshelveCancelled g) ok =
       unshelved-stays g Cancelled (kept_for_by H (place H) (state H) (is_begun H) g)
-      (ready-is _ (not-false _ (passed (checks H o (UnshelveCancelled g)) ok).1.0))
+      (ready-is _ (not-false _ (passed (checks H o (UnshelveCancelled g)) ok check.WrongHoldState)))
   moved-stays o (Missing n) ok =
       left-stays Waiting (is_kept_for (place H n) h)
       (λ e. let f : Fits (goal_of H) (HoldShelf h) h

@@ -7,6 +7,7 @@ use Rattle.terms.specs.declared.command.Command.{Command}
 use Rattle.terms.specs.declared.command.Command.TheVariants.{BeginDay, Acquire, Rehome, CheckOut, CheckIn, PlaceHold, CancelHold, Unshelve, UnshelveCancelled, Missing, Withdraw}
 use Rattle.terms.specs.declared.row.HoldState.{HoldState}
 use Rattle.terms.specs.declared.row.HoldState.TheVariants.{Waiting, Ready, Filled, Cancelled, Expired}
+use Rattle.terms.specs.declared.refusal.Refusal.TheVariants as check
 use Rattle.model.specs.History.{Event, History, today, today_after, has_begun, copy_of, copy_after, copies, CopyFacts, hold_made, hold_of, holds, next_hold}
 use Rattle.model.specs.Places.{Place, Nowhere, Shelf, HoldShelf, Transit, MissingCopy, WithdrawnCopy, place, state, is_begun, is_coming}
 use Rattle.model.specs.Places.{is_waiting, is_kept_for, is_bound_for, first_day_of, title_of_hold, goal_of, place_after, state_after, state_unshelved}
@@ -139,7 +140,7 @@ module _ (H : History) (inv : Invariant H) (g : ℕ) where
             absurd (clash _ (eq-eqb g g refl) (ap (λ p. is_bound_for p g) (sym stays) ∙ r))
         go false q r = absurd (clash _ was-bound r)
     stops-coming (CheckOut p n d) ok waits gone =
-        moves n _ (CheckOut p n d) (λ same. absurd (travels n (passed (checks H o (CheckOut p n d)) ok).1.1.1.1.1.1.0 same)) gone
+        moves n _ (CheckOut p n d) (λ same. absurd (travels n (passed (checks H o (CheckOut p n d)) ok check.InTransit) same)) gone
     stops-coming (CheckIn n d) ok waits gone = go (n == c) refl gone
       where
         go : (y : Bool) → (n == c) ≡ y
@@ -166,7 +167,7 @@ module _ (H : History) (inv : Invariant H) (g : ℕ) where
     stops-coming (Missing n) ok waits gone =
         moves n MissingCopy (Missing n) (λ same. inl (n, refl, subst (λ p. Serves p g) (sym (ap (place H) same ∙ at)) refl)) gone
     stops-coming (Withdraw n) ok waits gone =
-        moves n WithdrawnCopy (Withdraw n) (λ same. absurd (travels n (passed (checks H o (Withdraw n)) ok).1.1.1.0 same)) gone
+        moves n WithdrawnCopy (Withdraw n) (λ same. absurd (travels n (passed (checks H o (Withdraw n)) ok check.InTransit) same)) gone
     stops-coming _ ok waits gone = absurd (clash _ was-bound gone)
 
 -- ---- the law

@@ -1,5 +1,6 @@
 -- In every legal history whose commands have their forms: lines are within their limits, and what is kept can
 -- be read back.
+use Rattle.terms.specs.declared.refusal.Refusal.TheVariants as check
 use Rattle.model.specs.Sights.{sight}
 use Rattle.calendar.specs.declared.limits.TheConstants.{FIRST_DAY, LAST_DAY}
 use Rattle.terms.specs.declared.limits.TheConstants.{LAST_NUMBER}
@@ -228,21 +229,21 @@ module _ (H : History) (legal : IsLegal H) (forms : HasForms H) where
   -- The reply to a command that changes something can be kept.
   pub accepted-kept : (o : Owner) (x : Command) → refusal H o x ≡ None → only_asks x ≡ false → IsKept (accepted H x)
   accepted-kept o (CheckOut p c b) ok changes =
-      let room : loans H < LAST_NUMBER = leb-false _ _ (passed (checks H o (CheckOut p c b)) ok).1.1.1.1.1.1.1.1.1.1.1.1.1.1.0 in
+      let room : loans H < LAST_NUMBER = leb-false _ _ (passed (checks H o (CheckOut p c b)) ok check.NumbersUsedUp) in
       (omega (arith, room), due-kept o p c b ok)
   accepted-kept o (CheckIn c b) ok changes =
-      let copy = there (copy_of H c) (not-false _ (passed (checks H o (CheckIn c b)) ok).1.0) in
+      let copy = there (copy_of H c) (not-false _ (passed (checks H o (CheckIn c b)) ok check.UnknownCopy)) in
       (omega (arith, fine_at-le (place H c)), routed-kept (route H c b) (handed_in c b copy.0 copy.1))
   accepted-kept o (Renew l) ok changes =
       let pass = passed (checks H o (Renew l)) ok in (
-        loan-number l (and_parts (is_some (loan_of H l)) (is_own H o (borrower H l)) (not-false _ pass.0)).0,
-        renewed-kept l (due H l) (loan_of H l) pass.1.1.1.1.1.1.0,
+        loan-number l (and_parts (is_some (loan_of H l)) (is_own H o (borrower H l)) (not-false _ (pass check.UnknownLoan))).0,
+        renewed-kept l (due H l) (loan_of H l) (pass check.PastCalendar),
       )
   accepted-kept o (PlaceHold p t b d) ok changes =
-      let room : holds H < LAST_NUMBER = leb-false _ _ (passed (checks H o (PlaceHold p t b d)) ok).1.1.1.1.1.1.1.0 in
+      let room : holds H < LAST_NUMBER = leb-false _ _ (passed (checks H o (PlaceHold p t b d)) ok check.NumbersUsedUp) in
       omega (arith, room)
-  accepted-kept o (Unshelve h) ok changes = unshelved-kept h (not-false _ (passed (checks H o (Unshelve h)) ok).1.0)
-  accepted-kept o (UnshelveCancelled h) ok changes = unshelved-kept h (not-false _ (passed (checks H o (UnshelveCancelled h)) ok).1.0)
+  accepted-kept o (Unshelve h) ok changes = unshelved-kept h (not-false _ (passed (checks H o (Unshelve h)) ok check.WrongHoldState))
+  accepted-kept o (UnshelveCancelled h) ok changes = unshelved-kept h (not-false _ (passed (checks H o (UnshelveCancelled h)) ok check.WrongHoldState))
   accepted-kept o (Missing c) ok changes = missed-kept c (place H c)
   accepted-kept o (Pay p n) ok changes = omega (arith, owed-le p)
   accepted-kept o (Waive p n) ok changes = omega (arith, owed-le p)

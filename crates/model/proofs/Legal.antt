@@ -10,6 +10,7 @@ use Rattle.terms.specs.declared.row.HoldState.TheVariants.{Waiting, Ready, Fille
 use Rattle.terms.specs.declared.command.Command.{Command}
 use Rattle.terms.specs.declared.command.Command.TheVariants.{AmendCopy, Rehome}
 use Rattle.terms.specs.declared.command.Command.TheVariants.{Acquire, CheckOut, CheckIn, CancelHold, Unshelve, UnshelveCancelled, Missing, Withdraw}
+use Rattle.terms.specs.declared.refusal.Refusal.TheVariants as check
 use Rattle.model.specs.History.{History, copy_of, CopyFacts, HoldFacts, hold_made, hold_of, hold_after, next_hold}
 use Rattle.model.specs.Places.{Place, Nowhere, Shelf, HoldShelf, Transit, place, state, line, route, is_kept_for, title_of_copy, goal_of}
 use Rattle.model.specs.Places.{fills_from, fills_by, fills_first, kept_for_by, place_let_go, place_unshelved, state_unshelved, state_moved}
@@ -50,17 +51,17 @@ unshelved-nowhere H g x inv none = rw (inv.nowhere x none, place_unshelved) (inv
 event-nowhere : (H : History) (o : Owner) (k : List ℕ) (c : Command) → IsBound H → refusal H o c ≡ None
     → (x : ℕ) → is_none (copy_of (event o k c ∷ H) x) ≡ true → place (event o k c ∷ H) x ≡ Nowhere
 event-nowhere H o k (Acquire n t kind home price text) inv ok x none = acquire-nowhere H n x home _ (n == x) (is_none (copy_of H n)) inv refl none
-event-nowhere H o k (CheckOut p n b) inv ok x none = moved-nowhere H n x _ inv (passed (checks H o (CheckOut p n b)) ok).1.1.0 none
-event-nowhere H o k (CheckIn n b) inv ok x none = moved-nowhere H n x _ inv (passed (checks H o (CheckIn n b)) ok).1.0 none
+event-nowhere H o k (CheckOut p n b) inv ok x none = moved-nowhere H n x _ inv (passed (checks H o (CheckOut p n b)) ok check.UnknownCopy) none
+event-nowhere H o k (CheckIn n b) inv ok x none = moved-nowhere H n x _ inv (passed (checks H o (CheckIn n b)) ok check.UnknownCopy) none
 event-nowhere H o k (CancelHold g) inv ok x none =
     let gone : place_let_go H (place H) (state H) (is_begun H) g (place H x) ≡ Nowhere = rw (inv.nowhere x none) refl in gone
 event-nowhere H o k (Unshelve g) inv ok x none = unshelved-nowhere H g x inv none
 event-nowhere H o k (UnshelveCancelled g) inv ok x none = unshelved-nowhere H g x inv none
-event-nowhere H o k (Missing n) inv ok x none = moved-nowhere H n x _ inv (passed (checks H o (Missing n)) ok).0 none
-event-nowhere H o k (Withdraw n) inv ok x none = moved-nowhere H n x _ inv (passed (checks H o (Withdraw n)) ok).0 none
+event-nowhere H o k (Missing n) inv ok x none = moved-nowhere H n x _ inv (passed (checks H o (Missing n)) ok check.UnknownCopy) none
+event-nowhere H o k (Withdraw n) inv ok x none = moved-nowhere H n x _ inv (passed (checks H o (Withdraw n)) ok check.UnknownCopy) none
 event-nowhere H o k (AmendCopy n kind price) inv ok x none = inv.nowhere x (sym (amended-is_none (n == x) _ (copy_of H x)) ∙ none)
 event-nowhere H o k (Rehome n b) inv ok x none =
-    moved-nowhere H n x _ inv (passed (checks H o (Rehome n b)) ok).1.0 (sym (amended-is_none (n == x) _ (copy_of H x)) ∙ none)
+    moved-nowhere H n x _ inv (passed (checks H o (Rehome n b)) ok check.UnknownCopy) (sym (amended-is_none (n == x) _ (copy_of H x)) ∙ none)
 event-nowhere H o k _ inv ok x none = inv.nowhere x none
 
 -- ---- holds that aren't placed have no state
@@ -113,13 +114,13 @@ moved-unplaced H o (CheckOut p n b) inv ok h late =
 moved-unplaced H o (CheckIn n b) inv ok h late = arrived-unplaced H h (inv.unplaced h late) n b inv
 moved-unplaced H o (CancelHold g) inv ok h late =
     left-unplaced H h (inv.unplaced h late) Cancelled (g == h)
-    (λ e. some-none _ Waiting (rw (← eqb-true g h e) (waiting-is _ (not-false _ (passed (checks H o (CancelHold g)) ok).1.0))) (inv.unplaced h late))
+    (λ e. some-none _ Waiting (rw (← eqb-true g h e) (waiting-is _ (not-false _ (passed (checks H o (CancelHold g)) ok check.WrongHoldState)))) (inv.unplaced h late))
 moved-unplaced H o (Unshelve g) inv ok h late =
     unshelved-unplaced H h (inv.unplaced h late) g Expired (kept_for_by H (place H) (state H) (is_begun H) g) inv
-    (ready-is _ (not-false _ (passed (checks H o (Unshelve g)) ok).1.0))
+    (ready-is _ (not-false _ (passed (checks H o (Unshelve g)) ok check.WrongHoldState)))
 moved-unplaced H o (UnshelveCancelled g) inv ok h late =
     unshelved-unplaced H h (inv.unplaced h late) g Cancelled (kept_for_by H (place H) (state H) (is_begun H) g) inv
-    (ready-is _ (not-false _ (passed (checks H o (UnshelveCancelled g)) ok).1.0))
+    (ready-is _ (not-false _ (passed (checks H o (UnshelveCancelled g)) ok check.WrongHoldState)))
 moved-unplaced H o (Missing n) inv ok h late =
     left-unplaced H h (inv.unplaced h late) Waiting (is_kept_for (place H n) h)
     (λ e. let f : Fits (goal_of H) (HoldShelf h) h

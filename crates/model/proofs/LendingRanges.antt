@@ -9,6 +9,7 @@ use Rattle.terms.specs.Limits.{IsSmall, IsLarge, IsGiven}
 use Rattle.terms.specs.declared.command.Owner.{Owner}
 use Rattle.terms.specs.declared.command.Command.{Command}
 use Rattle.terms.specs.declared.command.Command.TheVariants.{CheckOut, CheckIn, Missing}
+use Rattle.terms.specs.declared.refusal.Refusal.TheVariants as check
 use Rattle.model.specs.History.{History, today, Terms, rule_of, PatronFacts, patron_of, title_of, CopyFacts, copy_of, next_loan, HoldFacts}
 use Rattle.model.specs.History.{hold_made, hold_of, hold_after, next_hold}
 use Rattle.model.specs.Places.{Place, Shelf, HoldShelf, Transit, Loan, place, state, route_by, goal_of, home_of, is_begun}
@@ -69,9 +70,9 @@ module _ (H : History) (inv : Invariant H) (settings : SettingRanges H) (before 
   loans-step : (x : Command) → refusal H o x ≡ None → (l : ℕ) (r : LoanFacts) → loan_after H x l (loan_of H l) ≡ Some r → LoanIn r
   loans-step (CheckOut p c b) ok l r e =
       let pass = passed (checks H o (CheckOut p c b)) ok in
-      let patron = there (patron_of H p) (not-false _ pass.1.0) in
-      let copy = there (copy_of H c) (not-false _ pass.1.1.0) in
-      let branch = there _ (not-false _ pass.0) in
+      let patron = there (patron_of H p) (not-false _ (pass check.UnknownPatron)) in
+      let copy = there (copy_of H c) (not-false _ (pass check.UnknownCopy)) in
+      let branch = there _ (not-false _ (pass check.UnknownBranch)) in
       let t = checked_out-terms H o p c b ok in
       let terms : TermsIn (unwrap_or (terms_for H p c) no_terms) =
       subst (λ y. TermsIn (unwrap_or y no_terms)) (sym t.1) (terms-in H inv settings p c t.0 t.1) in

@@ -11,6 +11,7 @@ mod RowsClosedDays
 pub mod Amending
 pub mod Rehoming
 pub mod Passing
+mod CheckOrder
 pub mod MadeHolds
 pub mod Least
 pub mod Runs

@@ -5,6 +5,7 @@ use Rattle.std.proofs.lemmas.Bool.{and_parts, ltb-false, leb-false}
 use Rattle.terms.specs.declared.command.Command.TheVariants.{CheckOut, Renew, PlaceHold}
 use Rattle.terms.specs.declared.row.KindRow.{KindRow}
 use Rattle.terms.specs.declared.row.PatronRow.{PatronRow}
+use Rattle.terms.specs.declared.refusal.Refusal.TheVariants as check
 use Rattle.model.specs.History.{Event, History, KindFacts, kind_of, PatronFacts, patron_of}
 use Rattle.model.specs.Loans.{LoanFacts, loan_of, open_loans}
 use Rattle.model.specs.Accounts.{borrower, owed}
@@ -64,16 +65,16 @@ within-limits : (e : Event) (H : History) → IsLegal (e ∷ H) → IsWithinLimi
 within-limits e H legal = record {
   lent = λ p c b is.
       let k = passed (checks H e.owner (CheckOut p c b)) (subst (λ x. refusal H e.owner x ≡ None) is legal.0.unrefused) in
-      allows H legal.1 p (not-false _ k.1.0) (λ q. (length (open_loans H p) < q.loans) × OwesAtMost H p q.debt)
-      (λ n. (leb-false (kind_now H p).loans (length (open_loans H p)) k.1.1.1.1.1.1.1.1.1.1.1.1.0, owes-at-most H p (kind_now H p).debt k.1.1.1.1.1.1.1.1.1.1.1.1.1.0));
+      allows H legal.1 p (not-false _ (k check.UnknownPatron)) (λ q. (length (open_loans H p) < q.loans) × OwesAtMost H p q.debt)
+      (λ n. (leb-false (kind_now H p).loans (length (open_loans H p)) (k check.TooManyLoans), owes-at-most H p (kind_now H p).debt (k check.OwesTooMuch)));
   renewed = λ l is.
       let k = passed (checks H e.owner (Renew l)) (subst (λ x. refusal H e.owner x ≡ None) is legal.0.unrefused) in
-      allows H legal.1 (borrower H l) (loan-patron H legal.1 l (and_parts _ _ (not-false _ k.0)).0) (λ q. OwesAtMost H (borrower H l) q.debt)
-      (λ n. owes-at-most H (borrower H l) (kind_now H (borrower H l)).debt k.1.1.1.1.1.0);
+      allows H legal.1 (borrower H l) (loan-patron H legal.1 l (and_parts _ _ (not-false _ (k check.UnknownLoan))).0) (λ q. OwesAtMost H (borrower H l) q.debt)
+      (λ n. owes-at-most H (borrower H l) (kind_now H (borrower H l)).debt (k check.OwesTooMuch));
   placed = λ p t b d is.
       let k = passed (checks H e.owner (PlaceHold p t b d)) (subst (λ x. refusal H e.owner x ≡ None) is legal.0.unrefused) in
-      allows H legal.1 p (not-false _ k.0) (λ q. length (active_holds H p) < q.holds)
-      (λ n. leb-false (kind_now H p).holds (length (active_holds H p)) k.1.1.1.1.1.1.0);
+      allows H legal.1 p (not-false _ (k check.UnknownPatron)) (λ q. length (active_holds H p) < q.holds)
+      (λ n. leb-false (kind_now H p).holds (length (active_holds H p)) (k check.TooManyHolds));
 }
 
 pub limits : Limits

@@ -12,6 +12,7 @@ use Rattle.terms.specs.declared.row.HoldState.TheVariants.{Waiting, Ready, Fille
 use Rattle.terms.specs.declared.command.Command.{Command}
 use Rattle.terms.specs.declared.command.Command.TheVariants.{Rehome}
 use Rattle.terms.specs.declared.command.Command.TheVariants.{Acquire, CheckOut, CheckIn, BeginDay, CancelHold, Unshelve, UnshelveCancelled, Missing, Withdraw}
+use Rattle.terms.specs.declared.refusal.Refusal.TheVariants as check
 use Rattle.model.specs.History.{Event, History, today, today_after, has_begun, copies, copies_after, copy_of, next_hold, HoldFacts}
 use Rattle.model.specs.History.{hold_made, hold_of, hold_after, holds, holds_after, numbers_to}
 use Rattle.model.specs.Places.{Place, Nowhere, Shelf, HoldShelf, Transit, Loan, MissingCopy, WithdrawnCopy, place, state, line, route}
@@ -249,7 +250,7 @@ module _ (H : History) (h : ℕ) (inv : IsBound H) (stands : WaitsForCopy H h) w
   unshelve-line o k g ok = go (routed-line on.0 (goal_of H g))
     where
       ready : state H g ≡ Some Ready
-      ready = ready-is _ (not-false _ (passed (checks H o (Unshelve g)) ok).1.0)
+      ready = ready-is _ (not-false _ (passed (checks H o (Unshelve g)) ok check.WrongHoldState))
 
       on : (n : ℕ) × (place H n ≡ HoldShelf g)
       on = inv.bound.kept g ready
@@ -265,7 +266,7 @@ module _ (H : History) (h : ℕ) (inv : IsBound H) (stands : WaitsForCopy H h) w
   unshelve_cancelled-line o k g ok = go (routed-line on.0 (goal_of H g))
     where
       ready : state H g ≡ Some Ready
-      ready = ready-is _ (not-false _ (passed (checks H o (UnshelveCancelled g)) ok).1.0)
+      ready = ready-is _ (not-false _ (passed (checks H o (UnshelveCancelled g)) ok check.WrongHoldState))
 
       on : (n : ℕ) × (place H n ≡ HoldShelf g)
       on = inv.bound.kept g ready
@@ -319,7 +320,7 @@ holds-grow None n = omega arith
 -- Days go on, so the first day of a hold that has come has come for good.
 day-goes-on : (o : Owner) (c : Command) (H : History) → refusal H o c ≡ None → today H ≤ today_after c (today H)
 day-goes-on o (BeginDay d) H ok =
-    let pass = and_parts (nat_lt (today H) d) (nat_le d LAST_TODAY) (not-false _ (passed (checks H o (BeginDay d)) ok).0) in
+    let pass = and_parts (nat_lt (today H) d) (nat_le d LAST_TODAY) (not-false _ (passed (checks H o (BeginDay d)) ok check.BadDay)) in
     let later : today H < d = ltb-true _ _ pass.0 in omega (arith, later)
 day-goes-on o _ H ok = omega arith
 

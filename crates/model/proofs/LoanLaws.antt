@@ -9,6 +9,7 @@ use Rattle.terms.specs.declared.command.Command.{Command}
 use Rattle.terms.specs.declared.command.Command.TheVariants.{AmendCopy, Rehome}
 use Rattle.terms.specs.declared.command.Command.TheVariants.{BeginDay, Acquire, CheckOut, CheckIn, Renew, CancelHold, Unshelve}
 use Rattle.terms.specs.declared.command.Command.TheVariants.{UnshelveCancelled, Missing, Withdraw}
+use Rattle.terms.specs.declared.refusal.Refusal.TheVariants as check
 use Rattle.model.specs.History.{History, today, CopyFacts, copy_of, copy_after, loans, loans_after, next_loan, HoldFacts, hold_made}
 use Rattle.model.specs.History.{hold_of, hold_after, holds, holds_after, next_hold}
 use Rattle.model.specs.Places.{Place, Nowhere, Shelf, HoldShelf, Transit, Loan, MissingCopy, WithdrawnCopy, place, state, place_after}
@@ -111,7 +112,7 @@ module _ (H : History) (inv : LoanLaws H) (o : Owner) where
       go : (x : Bool) → (n == l) ≡ x → cond x (renewals H l + 1) (renewals H l) ≡ 0
       go true d =
           let k = passed (checks H o (Renew n)) ok in
-          let parts : (is_some (loan_of H n) ≡ true) × (is_own H o (borrower H n) ≡ true) = and_parts _ _ (not-false _ k.0) in
+          let parts : (is_some (loan_of H n) ≡ true) × (is_own H o (borrower H n) ≡ true) = and_parts _ _ (not-false _ (k check.UnknownLoan)) in
           let has : is_some (loan_of H l) ≡ true = subst (λ m. is_some (loan_of H m) ≡ true) (eqb-true n l d) parts.0 in
           let none : is_some (loan_of H l) ≡ false = ap is_some (no_loan l lt) in
           let never : ⊥ = cc in absurd never
@@ -301,7 +302,7 @@ module _ (H : History) (inv : LoanLaws H) (o : Owner) where
       kept_at : place H r.copy ≡ Loan l → (elim (n == r.copy) as (λ _. Place) [ true ↦ Loan (next_loan H) | false ↦ place H r.copy ]) ≡ Loan l
       kept_at at = keeps n r.copy l (Loan (next_loan H)) (λ d.
           let k = passed (checks H o (CheckOut p n b)) ok in
-          let shut : is_on_loan (place H n) ≡ false = k.1.1.1.1.1.0 in
+          let shut : is_on_loan (place H n) ≡ false = (k check.OnLoan) in
           let lent : is_on_loan (place H r.copy) ≡ true = ap is_on_loan at in
           let lent' : is_on_loan (place H n) ≡ true = subst (λ m. is_on_loan (place H m) ≡ true) (sym (eqb-true n r.copy d)) lent in
           let never : ⊥ = cc in never) at
@@ -324,7 +325,7 @@ module _ (H : History) (inv : LoanLaws H) (o : Owner) where
       let at : place H r.copy ≡ Loan l = inv.open_loan l r e none in
       keeps n r.copy l WithdrawnCopy (λ d.
       let k = passed (checks H o (Withdraw n)) ok in
-      let shut : is_on_loan (place H n) ≡ false = k.1.1.0 in
+      let shut : is_on_loan (place H n) ≡ false = (k check.OnLoan) in
       let lent' : is_on_loan (place H n) ≡ true = subst (λ m. is_on_loan (place H m) ≡ true) (sym (eqb-true n r.copy d)) (ap is_on_loan at) in
       let never : ⊥ = cc in never) at
   open_loan-step (CancelHold h) ok l r e none = ap (λ p. place_let_go H (place H) (state H) (is_begun H) h p) (inv.open_loan l r e none) ∙ refl
@@ -352,16 +353,16 @@ module _ (H : History) (inv : LoanLaws H) (o : Owner) where
       go true z None d g = let never : ⊥ = cc in absurd never
       go false true None d g = inv.unknown c d
       go false false None d g = inv.unknown c d
-  unknown-step (CheckOut p n b) ok c e = let k = passed (checks H o (CheckOut p n b)) ok in untouched n c (Loan (next_loan H)) k.1.1.0 e
-  unknown-step (CheckIn n b) ok c e = let k = passed (checks H o (CheckIn n b)) ok in untouched n c (route_by H (place H) (state H) (is_begun H) n b) k.1.0 e
-  unknown-step (Missing n) ok c e = let k = passed (checks H o (Missing n)) ok in untouched n c MissingCopy k.0 e
-  unknown-step (Withdraw n) ok c e = let k = passed (checks H o (Withdraw n)) ok in untouched n c WithdrawnCopy k.0 e
+  unknown-step (CheckOut p n b) ok c e = let k = passed (checks H o (CheckOut p n b)) ok in untouched n c (Loan (next_loan H)) (k check.UnknownCopy) e
+  unknown-step (CheckIn n b) ok c e = let k = passed (checks H o (CheckIn n b)) ok in untouched n c (route_by H (place H) (state H) (is_begun H) n b) (k check.UnknownCopy) e
+  unknown-step (Missing n) ok c e = let k = passed (checks H o (Missing n)) ok in untouched n c MissingCopy (k check.UnknownCopy) e
+  unknown-step (Withdraw n) ok c e = let k = passed (checks H o (Withdraw n)) ok in untouched n c WithdrawnCopy (k check.UnknownCopy) e
   unknown-step (CancelHold h) ok c e = ap (λ p. place_let_go H (place H) (state H) (is_begun H) h p) (inv.unknown c e)
   unknown-step (Unshelve g) ok c e = unshelved-nowhere g c (inv.unknown c e)
   unknown-step (UnshelveCancelled g) ok c e = unshelved-nowhere g c (inv.unknown c e)
   unknown-step (AmendCopy n kind price) ok c e = inv.unknown c (amended-none (n == c) _ (copy_of H c) e)
   unknown-step (Rehome n b) ok c e = let k = passed (checks H o (Rehome n b)) ok in
-      untouched n c (rehomed H b (place H n)) k.1.0 (amended-none (n == c) _ (copy_of H c) e)
+      untouched n c (rehomed H b (place H n)) (k check.UnknownCopy) (amended-none (n == c) _ (copy_of H c) e)
   unknown-step _ ok c e = inv.unknown c e
 
 -- ---- every legal history

@@ -6,6 +6,7 @@ use Rattle.terms.specs.declared.command.Owner.{Owner}
 use Rattle.terms.specs.declared.command.Command.{Command}
 use Rattle.terms.specs.declared.command.Command.TheVariants.{AmendCopy, Rehome}
 use Rattle.terms.specs.declared.command.Command.TheVariants.{Acquire, CheckOut, CheckIn, PlaceHold, CancelHold, Unshelve, UnshelveCancelled, Missing, Withdraw}
+use Rattle.terms.specs.declared.refusal.Refusal.TheVariants as check
 use Rattle.model.specs.History.{History, title_of, copy_of, copy_after, copies, copies_after, HoldFacts, hold_made, holds}
 use Rattle.model.specs.Places.{place, state, place_after, limit_after, is_begun}
 use Rattle.model.specs.DueDays.{comes_to_shelf}
@@ -24,7 +25,7 @@ pub placeable : (H : History) (o : Owner) (c : Command) (made : HoldFacts) → r
 placeable H o (PlaceHold p t b d) made ok e =
     let pass = passed (checks H o (PlaceHold p t b d)) ok in
     let same : ◌≡◌ {A = HoldFacts} (record { patron = p; title = t; branch = b; first_day = d }) made = cc in
-    subst (IsPlaceable H) same (record { patron = pass.0; title = pass.1.0; branch = pass.1.1.0; later = pass.1.1.1.0; room = pass.1.1.1.1.1.1.1.0 })
+    subst (IsPlaceable H) same (record { patron = (pass check.UnknownPatron); title = (pass check.UnknownTitle); branch = (pass check.UnknownBranch); later = (pass check.BadDay); room = (pass check.NumbersUsedUp) })
 placeable H o _ made ok e = let never : ⊥ = cc in absurd never
 
 -- The command moves no copy, and sets no shelf limit.

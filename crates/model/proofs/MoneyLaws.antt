@@ -11,6 +11,7 @@ use Rattle.terms.specs.declared.command.Command.{Command}
 use Rattle.terms.specs.declared.command.Command.TheVariants.{CheckOut}
 use Rattle.terms.specs.declared.row.Sort.{Sort}
 use Rattle.terms.specs.declared.row.Sort.TheVariants.{Fine, Price}
+use Rattle.terms.specs.declared.refusal.Refusal.TheVariants as check
 use Rattle.model.specs.Calendar.{late}
 use Rattle.model.specs.History.{History, today, is_open, loans, loans_after, next_loan, HoldFacts, hold_made, holds, holds_after, CopyFacts, copy_of}
 use Rattle.model.specs.Places.{Place, Loan, place}
@@ -90,7 +91,7 @@ module _ (H : History) (inv : MoneyLaws H) (settings : SettingLaws H) where
 
   loans-step : (o : Owner) (x : Command) → refusal H o x ≡ None → loans_after x (loans H) ≤ LAST_NUMBER
   loans-step o (CheckOut p c b) ok =
-      let room : loans H < LAST_NUMBER = leb-false _ _ (passed (checks H o (CheckOut p c b)) ok).1.1.1.1.1.1.1.1.1.1.1.1.1.1.0 in omega (arith, room)
+      let room : loans H < LAST_NUMBER = leb-false _ _ (passed (checks H o (CheckOut p c b)) ok check.NumbersUsedUp) in omega (arith, room)
   loans-step o _ ok = inv.loans_left
 
   holds-step : (o : Owner) (x : Command) (made : Option HoldFacts) → hold_made x ≡ made → refusal H o x ≡ None → holds_after made (holds H) ≤ LAST_NUMBER

@@ -10,6 +10,7 @@ use Rattle.terms.specs.declared.row.LoanRow.{LoanRow}
 use Rattle.terms.specs.declared.row.CopyRow.{CopyRow}
 use Rattle.terms.specs.declared.row.HoldState.{HoldState}
 use Rattle.terms.specs.declared.row.HoldState.TheVariants.{Waiting, Ready, Filled, Cancelled, Expired}
+use Rattle.terms.specs.declared.refusal.Refusal.TheVariants as check
 use Rattle.model.specs.History.{Event, History, CopyFacts, copy_of, copy_after, today, loans, next_loan, HoldFacts, hold_made, hold_of, hold_after, holds}
 use Rattle.model.specs.History.{next_hold, numbers_to}
 use Rattle.model.specs.Places.{Nowhere, Loan, place, state, state_after, fills, is_begun, is_waiting, is_ready, title_of_copy, title_of_hold, patron_of_hold}
@@ -228,7 +229,7 @@ module _ (e : Event) (H : History) (legal : IsLegal (e ∷ H)) (apart : IsApart 
           let same : ◌≡◌ {A = HoldFacts} (record { patron = p; title = t; branch = b; first_day = d }) f = some-same _ f q in
           let k = passed (checks H e.owner (PlaceHold p t b d)) ok in
           subst (λ (r : HoldFacts). (has_hold_on H (sight H) r.patron r.title ≡ false) × (has_on_loan H r.patron r.title ≡ false)) same
-          (k.1.1.1.1.0, k.1.1.1.1.1.0)
+          ((k check.AlreadyHolds), (k check.HasOnLoan))
       go _ q ok = let never : ⊥ = cc in absurd never
 
   one-hold : (h g : ℕ) (f k : HoldFacts) → IsActive (e ∷ H) h f → IsActive (e ∷ H) g k → f.patron ≡ k.patron → f.title ≡ k.title → h ≡ g
@@ -246,7 +247,7 @@ module _ (e : Event) (H : History) (legal : IsLegal (e ∷ H)) (apart : IsApart 
     where
       checks-passed : has_other_hold H (sight H) f.patron w.copy ≡ false
       checks-passed = (passed (checks H e.owner (CheckOut f.patron w.copy w.branch))
-          (subst (λ x. refusal H e.owner x ≡ None) w.command legal.0.unrefused)).1.1.1.1.1.1.1.1.1.1.0
+          (subst (λ x. refusal H e.owner x ≡ None) w.command legal.0.unrefused) check.AlreadyHolds)
 
       go : (b : Bool) → fills H f.patron w.copy h ≡ b → ⊥
       go true d =

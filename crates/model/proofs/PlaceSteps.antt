@@ -8,6 +8,7 @@ use Rattle.terms.specs.declared.command.Command.{Command}
 use Rattle.terms.specs.declared.command.Command.TheVariants.{Rehome}
 use Rattle.terms.specs.declared.command.Command.TheVariants.{Acquire, CheckOut, CheckIn, CancelHold, Unshelve, UnshelveCancelled, Missing, Withdraw}
 use Rattle.terms.specs.declared.row.HoldState.TheVariants.{Waiting}
+use Rattle.terms.specs.declared.refusal.Refusal.TheVariants as check
 use Rattle.model.specs.History.{History, numbers_to, BranchFacts, branch_of, CopyFacts, copy_of, loans, next_loan, HoldFacts, hold_of, holds}
 use Rattle.model.specs.Places.{Place, Nowhere, Shelf, HoldShelf, Transit, Loan, MissingCopy, WithdrawnCopy, place, state, place_after}
 use Rattle.model.specs.Places.{place_let_go, place_unshelved, is_kept_for, is_waiting, is_begun, is_coming_by, line_by, route_by}
@@ -136,7 +137,7 @@ module _ (H : History) (inv : Invariant H) (P : Place
     where
       branch : (r : BranchFacts) × (branch_of H home ≡ Some r)
       branch = there (branch_of H home) (not-false _ (passed (checks H o
-          (Acquire n t k home price text)) ok).1.0)
+          (Acquire n t k home price text)) ok check.UnknownBranch))
 
       go : (x : Bool)
           → P (elim x as (λ _. Place) [
@@ -147,14 +148,14 @@ module _ (H : History) (inv : Invariant H) (P : Place
       go true = moved-keeps n c (Shelf home) (keeps.acquired home branch.0 branch.1)
       go false = keeps.now c
   place_after-keeps (Rehome n b) ok c =
-      let branch = there (branch_of H b) (not-false _ (passed (checks H o (Rehome n b)) ok).0) in
+      let branch = there (branch_of H b) (not-false _ (passed (checks H o (Rehome n b)) ok check.UnknownBranch)) in
       moved-keeps n c (rehomed H b (place H n)) (rehomed-keeps H P b (place H n) (keeps.now n) (keeps.rehomed b branch.0 branch.1))
   place_after-keeps (CheckOut p n b) ok c =
       let room : loans H < LAST_NUMBER = leb-false _ _ (passed (checks H o
-      (CheckOut p n b)) ok).1.1.1.1.1.1.1.1.1.1.1.1.1.1.0 in
+      (CheckOut p n b)) ok check.NumbersUsedUp) in
       moved-keeps n c (Loan (next_loan H)) (keeps.lent room)
   place_after-keeps (CheckIn n b) ok c =
-      let copy = there (copy_of H n) (not-false _ (passed (checks H o (CheckIn n b)) ok).1.0) in
+      let copy = there (copy_of H n) (not-false _ (passed (checks H o (CheckIn n b)) ok check.UnknownCopy)) in
       moved-keeps n c (route_by H (place H) (state H) (is_begun H) n b) (route-keeps n b copy.0 copy.1)
   place_after-keeps (CancelHold g) ok c = let_go-keeps g (place H c) (keeps.now c)
   place_after-keeps (Unshelve g) ok c = unshelved-keeps g c

@@ -8,6 +8,7 @@ use Rattle.terms.specs.declared.command.Command.{Command}
 use Rattle.terms.specs.declared.command.Command.TheVariants.{CheckIn, Missing, Pay, Waive}
 use Rattle.terms.specs.declared.row.Sort.{Sort}
 use Rattle.terms.specs.declared.row.Sort.TheVariants.{Payment, Waiver}
+use Rattle.terms.specs.declared.refusal.Refusal.TheVariants as check
 use Rattle.model.specs.History.{History}
 use Rattle.model.specs.Places.{place}
 use Rattle.model.specs.Loans.{grace_of}
@@ -38,12 +39,12 @@ settling H o (Pay q m) p n sort ok e =
     let pass = passed (checks H o (Pay q m)) ok in
     let patron : q ≡ p = cc in
     let amount : m ≡ n = cc in
-    subst (λ k. IsSettling H k n) patron (subst (IsSettling H q) amount (record { patron = pass.0; amount = pass.1.0 }))
+    subst (λ k. IsSettling H k n) patron (subst (IsSettling H q) amount (record { patron = (pass check.UnknownPatron); amount = (pass check.BadAmount) }))
 settling H o (Waive q m) p n sort ok e =
     let pass = passed (checks H o (Waive q m)) ok in
     let patron : q ≡ p = cc in
     let amount : m ≡ n = cc in
-    subst (λ k. IsSettling H k n) patron (subst (IsSettling H q) amount (record { patron = pass.0; amount = pass.1.0 }))
+    subst (λ k. IsSettling H k n) patron (subst (IsSettling H q) amount (record { patron = (pass check.UnknownPatron); amount = (pass check.BadAmount) }))
 settling H o (CheckIn c b) p n sort ok e = let never : ⊥ = cc in absurd never
 settling H o (Missing c) p n sort ok e = let never : ⊥ = cc in absurd never
 settling H o _ p n sort ok e = let never : ⊥ = cc in absurd never
@@ -63,15 +64,15 @@ one-line H p sort (suc n) = omega arith
 pub lines-numbered : (H : History) (o : Owner) (x : Command) → length (lines H) ≤ LAST_NUMBER → refusal H o x ≡ None
     → length (lines_after H (posting x) (lines H)) ≤ LAST_NUMBER
 lines-numbered H o (CheckIn c b) before ok =
-    let room : length (lines H) + length (lines_by H (CheckIn c b)) ≤ LAST_NUMBER = ltb-false _ _ (passed (checks H o (CheckIn c b)) ok).1.1.1.1.0 in
+    let room : length (lines H) + length (lines_by H (CheckIn c b)) ≤ LAST_NUMBER = ltb-false _ _ (passed (checks H o (CheckIn c b)) ok check.NumbersUsedUp) in
     rw (length-append (lines H) (lines_by H (CheckIn c b))) room
 lines-numbered H o (Missing c) before ok =
-    let room : length (lines H) + length (lines_by H (Missing c)) ≤ LAST_NUMBER = ltb-false _ _ (passed (checks H o (Missing c)) ok).1.1.1.0 in
+    let room : length (lines H) + length (lines_by H (Missing c)) ≤ LAST_NUMBER = ltb-false _ _ (passed (checks H o (Missing c)) ok check.NumbersUsedUp) in
     rw (length-append (lines H) (lines_by H (Missing c))) room
 lines-numbered H o (Pay p n) before ok =
-    let room : length (lines H) + 1 ≤ LAST_NUMBER = ltb-false _ _ (passed (checks H o (Pay p n)) ok).1.1.0 in
+    let room : length (lines H) + 1 ≤ LAST_NUMBER = ltb-false _ _ (passed (checks H o (Pay p n)) ok check.NumbersUsedUp) in
     rw (length-append (lines H) (line_of H p Payment None n)) (omega (arith, room, one-line H p Payment n))
 lines-numbered H o (Waive p n) before ok =
-    let room : length (lines H) + 1 ≤ LAST_NUMBER = ltb-false _ _ (passed (checks H o (Waive p n)) ok).1.1.0 in
+    let room : length (lines H) + 1 ≤ LAST_NUMBER = ltb-false _ _ (passed (checks H o (Waive p n)) ok check.NumbersUsedUp) in
     rw (length-append (lines H) (line_of H p Waiver None n)) (omega (arith, room, one-line H p Waiver n))
 lines-numbered H o _ before ok = before

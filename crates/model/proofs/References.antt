@@ -15,6 +15,7 @@ use Rattle.terms.specs.declared.row.Sort.{Sort}
 use Rattle.terms.specs.declared.row.Sort.TheVariants.{Fine, Price}
 use Rattle.terms.specs.declared.row.HoldState.{HoldState}
 use Rattle.terms.specs.declared.row.HoldState.TheVariants.{Waiting, Ready, Filled, Cancelled, Expired}
+use Rattle.terms.specs.declared.refusal.Refusal.TheVariants as check
 use Rattle.model.specs.Calendar.{is_single}
 use Rattle.model.specs.History.{History, today, singles_of, BranchFacts, branch_of, branch_after, KindFacts, kind_of, kind_after, Terms}
 use Rattle.model.specs.History.{rule_of, rule_after, PatronFacts, patron_of, patron_after, title_of, title_after, CopyFacts, copy_of}
@@ -147,7 +148,7 @@ module _ (H : History) (inv : Invariant H) (before : ReferenceLaws H) (o : Owner
       → rule_after x k c (rule_of H k c) ≡ Some t → IsThere (kind_after x k (kind_of H k))
   rules-step (Rule n m period renewals rate most) ok k c t e =
       let known : IsThere (kind_of H n) = is_none-there (kind_of H n) (passed (checks H o
-      (Rule n m period renewals rate most)) ok).1.0 in
+      (Rule n m period renewals rate most)) ok check.UnknownKind) in
       set-if (λ _. IsThere (kind_of H k)) ((n == k) && (m == c))
       (record { period = period; renewals = renewals; rate = rate; cap = most; grace = 0 }) (rule_of H k c)
       (λ d. subst (λ a. IsThere (kind_of H a)) (eqb-true n k (and_parts (n == k)
@@ -160,14 +161,14 @@ module _ (H : History) (inv : Invariant H) (before : ReferenceLaws H) (o : Owner
       → patron_after x p (patron_of H p) ≡ Some r → IsThere (kind_after x r.kind (kind_of H r.kind))
   patrons-step (Patron n k card_key name) ok p r e =
       let known : IsThere (kind_of H k) = is_none-there (kind_of H k) (passed (checks H o
-      (Patron n k card_key name)) ok).1.0 in
+      (Patron n k card_key name)) ok check.UnknownKind) in
       make-at (λ _ q. IsThere (kind_of H q.kind)) n p
       (record { kind = k; card_key = card_key; name = name }) (patron_of H p) known
       (before.patrons p) r e
   patrons-step (SetCardKey n card_key) ok p r e =
       amended-keeps (λ q. IsThere (kind_of H q.kind)) (n == p) (with_card_key card_key) (patron_of H p) (before.patrons p) (λ z was. was) r e
   patrons-step (AmendPatron n k name) ok p r e =
-      let known : IsThere (kind_of H k) = is_none-there (kind_of H k) (passed (checks H o (AmendPatron n k name)) ok).1.1.0 in
+      let known : IsThere (kind_of H k) = is_none-there (kind_of H k) (passed (checks H o (AmendPatron n k name)) ok check.UnknownKind) in
       amended-keeps (λ q. IsThere (kind_of H q.kind)) (n == p) (with_kind k name) (patron_of H p) (before.patrons p) (λ z was. known) r e
   patrons-step x ok p r e = kind-stays x r.kind (kind_of H r.kind) (before.patrons p r e)
 
@@ -180,7 +181,7 @@ module _ (H : History) (inv : Invariant H) (before : ReferenceLaws H) (o : Owner
       → copy_after x c (copy_of H c) ≡ Some r → CopyThere x r
   copies-step (Acquire n t k home price text) ok c r e =
       let known : IsThere (branch_of H home) = not-false _ (passed (checks H o
-      (Acquire n t k home price text)) ok).1.0 in
+      (Acquire n t k home price text)) ok check.UnknownBranch) in
       make-at (λ _ q. CopyThere (Acquire n t k home price text) q) n c
       (record { title = t; kind = k; home = home; price = price }) (copy_of H c)
       (title-made t (title_of H t) text, known)
@@ -192,7 +193,7 @@ module _ (H : History) (inv : Invariant H) (before : ReferenceLaws H) (o : Owner
   copies-step (AmendCopy n k price) ok c r e =
       amended-keeps (CopyThere (AmendCopy n k price)) (n == c) (with_price k price) (copy_of H c) (before.copies c) (λ z was. was) r e
   copies-step (Rehome n home) ok c r e =
-      let known : IsThere (branch_of H home) = not-false _ (passed (checks H o (Rehome n home)) ok).0 in
+      let known : IsThere (branch_of H home) = not-false _ (passed (checks H o (Rehome n home)) ok check.UnknownBranch) in
       amended-keeps (CopyThere (Rehome n home)) (n == c) (with_home home) (copy_of H c) (before.copies c) (λ z was. (was.0, known)) r e
   copies-step x ok c r e =
       let old = before.copies c r e in (
@@ -210,8 +211,8 @@ module _ (H : History) (inv : Invariant H) (before : ReferenceLaws H) (o : Owner
       → loan_after H x l (loan_of H l) ≡ Some r → LoanThere x r
   loans-step (CheckOut p c b) ok l r e =
       let pass = passed (checks H o (CheckOut p c b)) ok in
-      let branch : IsThere (branch_of H b) = not-false _ pass.0 in
-      let copy : IsThere (copy_of H c) = not-false _ pass.1.1.0 in
+      let branch : IsThere (branch_of H b) = not-false _ (pass check.UnknownBranch) in
+      let copy : IsThere (copy_of H c) = not-false _ (pass check.UnknownCopy) in
       set-if (LoanThere (CheckOut p c b)) (next_loan H == l)
       (record {
         copy = c;

@@ -12,6 +12,7 @@ use Rattle.terms.specs.declared.command.Owner.{Owner}
 use Rattle.terms.specs.declared.command.Command.{Command}
 use Rattle.terms.specs.declared.command.Command.TheVariants.{AmendBranch, AmendCopy, Rehome}
 use Rattle.terms.specs.declared.command.Command.TheVariants.{BeginDay, Branch, Week, CloseDay, OpenDay, Rule, Grace, Acquire}
+use Rattle.terms.specs.declared.refusal.Refusal.TheVariants as check
 use Rattle.model.specs.Calendar.{is_single}
 use Rattle.model.specs.Checks.{is_within, is_within_limits, is_small_number, is_large_number}
 use Rattle.model.specs.History.{History, today, today_after, week_of, week_after, singles_of, singles_after, BranchFacts, branch_of}
@@ -91,7 +92,7 @@ once-filter test (x ∷ s) once = go (test x) (once-filter test s once.1)
 module _ (H : History) (inv : SettingLaws H) (o : Owner) where
   today-step : (x : Command) → refusal H o x ≡ None → (FIRST_DAY ≤ today_after x (today H)) × (today_after x (today H) ≤ LAST_TODAY)
   today-step (BeginDay d) ok =
-      let parts : (nat_lt (today H) d ≡ true) × (nat_le d LAST_TODAY ≡ true) = and_parts _ _ (not-false _ (passed (checks H o (BeginDay d)) ok).0) in
+      let parts : (nat_lt (today H) d ≡ true) × (nat_le d LAST_TODAY ≡ true) = and_parts _ _ (not-false _ (passed (checks H o (BeginDay d)) ok check.BadDay)) in
       (omega (arith, inv.today_from, ltb-true _ _ parts.0), leb-true _ _ parts.1)
   today-step _ ok = (inv.today_from, inv.today_to)
 
@@ -99,7 +100,7 @@ module _ (H : History) (inv : SettingLaws H) (o : Owner) where
   few-step (CloseDay n d) ok b = go (n == b) refl
     where
       room : length (singles_of H n) < MOST_CLOSED_DAYS
-      room = leb-false _ _ (passed (checks H o (CloseDay n d)) ok).1.1.1.0
+      room = leb-false _ _ (passed (checks H o (CloseDay n d)) ok check.OutOfLimits)
 
       go : (x : Bool) → (n == b) ≡ x → length (cond x (d ∷ singles_of H b) (singles_of H b)) ≤ MOST_CLOSED_DAYS
       go true e = let here : length (singles_of H b) < MOST_CLOSED_DAYS =
@@ -116,7 +117,7 @@ module _ (H : History) (inv : SettingLaws H) (o : Owner) where
   once-step (CloseDay n d) ok b = go (n == b) refl
     where
       new : is_single (singles_of H n) d ≡ false
-      new = (passed (checks H o (CloseDay n d)) ok).1.1.0
+      new = (passed (checks H o (CloseDay n d)) ok check.AlreadyClosed)
 
       go : (x : Bool) → (n == b) ≡ x → IsDistinct ◌==◌ (cond x (d ∷ singles_of H b) (singles_of H b))
       go true e = once-more d (singles_of H b) (subst (λ m. is_single (singles_of H m) d ≡ false) (eqb-true n b e) new) (inv.once b)
@@ -140,7 +141,7 @@ module _ (H : History) (inv : SettingLaws H) (o : Owner) where
   unset-step (Week n closed) ok b none = (go (n == b) refl, (inv.unset b none).1)
     where
       has : not (has_branch H n) ≡ false
-      has = (passed (checks H o (Week n closed)) ok).0
+      has = (passed (checks H o (Week n closed)) ok check.UnknownBranch)
 
       go : (x : Bool) → (n == b) ≡ x → cond x closed (week_of H b) ≡ replicate 7 false
       go true e = absurd (other-branch n b has none e)
@@ -148,7 +149,7 @@ module _ (H : History) (inv : SettingLaws H) (o : Owner) where
   unset-step (CloseDay n d) ok b none = ((inv.unset b none).0, go (n == b) refl)
     where
       has : not (has_branch H n) ≡ false
-      has = (passed (checks H o (CloseDay n d)) ok).0
+      has = (passed (checks H o (CloseDay n d)) ok check.UnknownBranch)
 
       go : (x : Bool) → (n == b) ≡ x → cond x (d ∷ singles_of H b) (singles_of H b) ≡ []
       go true e = absurd (other-branch n b has none e)
@@ -156,7 +157,7 @@ module _ (H : History) (inv : SettingLaws H) (o : Owner) where
   unset-step (OpenDay n d) ok b none = ((inv.unset b none).0, go (n == b) refl)
     where
       has : not (has_branch H n) ≡ false
-      has = (passed (checks H o (OpenDay n d)) ok).0
+      has = (passed (checks H o (OpenDay n d)) ok check.UnknownBranch)
 
       go : (x : Bool) → (n == b) ≡ x → cond x (filter (λ e. not (d == e)) (singles_of H b)) (singles_of H b) ≡ []
       go true e = absurd (other-branch n b has none e)
@@ -168,7 +169,7 @@ module _ (H : History) (inv : SettingLaws H) (o : Owner) where
   terms-step (Rule n m period renewals rate most) ok k c t e = go ((n == k) && (m == c)) e
     where
       limits : is_within_limits (Rule n m period renewals rate most) ≡ true
-      limits = not-false _ (passed (checks H o (Rule n m period renewals rate most)) ok).0
+      limits = not-false _ (passed (checks H o (Rule n m period renewals rate most)) ok check.OutOfLimits)
 
       go : (x : Bool) → cond x (Some (record { period = period; renewals = renewals; rate = rate; cap = most; grace = 0 }))
           (rule_of H k c) ≡ Some t → (t.period ≤ 365) × (t.cap ≤ 100000)
@@ -184,7 +185,7 @@ module _ (H : History) (inv : SettingLaws H) (o : Owner) where
   pickups-step (Branch n pickup name) ok b r e = go (branch_of H b) (n == b) refl e
     where
       limits : is_within_limits (Branch n pickup name) ≡ true
-      limits = not-false _ (passed (checks H o (Branch n pickup name)) ok).0
+      limits = not-false _ (passed (checks H o (Branch n pickup name)) ok check.OutOfLimits)
 
       go : (y : Option BranchFacts) (x : Bool) → branch_of H b ≡ y
           → option_or y (cond x (Some (record { pickup = pickup; name = name })) None) ≡ Some r → r.pickup ≤ 60
@@ -194,7 +195,7 @@ module _ (H : History) (inv : SettingLaws H) (o : Owner) where
           subst (λ q. q ≤ 60) (ap (λ q. q.pickup) same) (branch-short n pickup name limits)
       go None false d f = let never : ⊥ = cc in absurd never
   pickups-step (AmendBranch n pickup name) ok b r e =
-      let short = within-le 0 60 pickup (and_parts (is_small_number n) _ (not-false _ (passed (checks H o (AmendBranch n pickup name)) ok).0)).1 in
+      let short = within-le 0 60 pickup (and_parts (is_small_number n) _ (not-false _ (passed (checks H o (AmendBranch n pickup name)) ok check.OutOfLimits))).1 in
       amended-keeps (λ q. q.pickup ≤ 60) (n == b) (with_pickup pickup name) (branch_of H b) (inv.pickups b) (λ z was. short) r e
   pickups-step _ ok b r e = inv.pickups b r e
 
@@ -202,7 +203,7 @@ module _ (H : History) (inv : SettingLaws H) (o : Owner) where
   prices-step (Acquire n t k home price text) ok c r e = go (copy_of H c) (n == c) refl e
     where
       limits : is_within_limits (Acquire n t k home price text) ≡ true
-      limits = not-false _ (passed (checks H o (Acquire n t k home price text)) ok).0
+      limits = not-false _ (passed (checks H o (Acquire n t k home price text)) ok check.OutOfLimits)
 
       go : (y : Option CopyFacts) (x : Bool) → copy_of H c ≡ y
           → option_or y (cond x (Some (record { title = t; kind = k; home = home; price = price })) None) ≡ Some r → r.price ≤ 1000000
@@ -212,7 +213,7 @@ module _ (H : History) (inv : SettingLaws H) (o : Owner) where
           subst (λ q. q ≤ 1000000) (ap (λ q. q.price) same) (price-small n t k home price text limits)
       go None false d f = let never : ⊥ = cc in absurd never
   prices-step (AmendCopy n k price) ok c r e =
-      let small = within-le 0 1000000 price (and_parts (is_small_number k) _ (not-false _ (passed (checks H o (AmendCopy n k price)) ok).0)).1 in
+      let small = within-le 0 1000000 price (and_parts (is_small_number k) _ (not-false _ (passed (checks H o (AmendCopy n k price)) ok check.OutOfLimits))).1 in
       amended-keeps (λ q. q.price ≤ 1000000) (n == c) (with_price k price) (copy_of H c) (inv.prices c) (λ z was. small) r e
   prices-step (Rehome n b) ok c r e = amended-keeps (λ q. q.price ≤ 1000000) (n == c) (with_home b) (copy_of H c) (inv.prices c) (λ z was. was) r e
   prices-step _ ok c r e = inv.prices c r e
@@ -266,7 +267,7 @@ weekdays-step H o (Week n closed) b whole ok before = go (n == b)
   where
     some : HasOpenWeekday closed
     some = let w : (w : ℕ) × (w < length closed) × (slice_index_or closed w false ≡ false) =
-        not-all closed (passed (checks H o (Week n closed)) ok).1.0 in (w.0, omega (arith, w.1, whole), w.2)
+        not-all closed (passed (checks H o (Week n closed)) ok check.AllWeekdaysClosed) in (w.0, omega (arith, w.1, whole), w.2)
 
     go : (x : Bool) → HasOpenWeekday (cond x closed (week_of H b))
     go true = some

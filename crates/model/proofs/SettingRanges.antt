@@ -13,6 +13,7 @@ use Rattle.terms.specs.declared.command.Owner.{Owner}
 use Rattle.terms.specs.declared.command.Command.{Command}
 use Rattle.terms.specs.declared.command.Command.TheVariants.{SetCardKey, AmendPatron, AmendBranch, AmendTitle, AmendCopy, Rehome}
 use Rattle.terms.specs.declared.command.Command.TheVariants.{Branch, Week, CloseDay, OpenDay, Kind, Rule, Grace, Patron, Acquire}
+use Rattle.terms.specs.declared.refusal.Refusal.TheVariants as check
 use Rattle.model.specs.Calendar.{is_single}
 use Rattle.model.specs.Checks.{is_within, is_within_limits, is_small_number, is_large_number}
 use Rattle.model.specs.History.{History, week_of, week_after, singles_of, singles_after, BranchFacts, branch_of, branch_after, KindFacts}
@@ -147,11 +148,11 @@ module _ (H : History) (inv : SettingRanges H) (o : Owner) where
 
   branches-step : (x : Command) → IsCommand x → refusal H o x ≡ None → (b : ℕ) (r : BranchFacts) → branch_after x b (branch_of H b) ≡ Some r → BranchIn b r
   branches-step (Branch n pickup name) form ok b r e =
-      let limits = and_parts (is_small_number n) (is_within 0 60 pickup) (not-false _ (passed (checks H o (Branch n pickup name)) ok).0) in
+      let limits = and_parts (is_small_number n) (is_within 0 60 pickup) (not-false _ (passed (checks H o (Branch n pickup name)) ok check.OutOfLimits)) in
       make-at BranchIn n b (record { pickup = pickup; name = name }) (branch_of H b)
       (within 1 99 n limits.0, (within 0 60 pickup limits.1).1, form.1.1.0) (inv.branches b) r e
   branches-step (AmendBranch n pickup name) form ok b r e =
-      let limits = and_parts (is_small_number n) (is_within 0 60 pickup) (not-false _ (passed (checks H o (AmendBranch n pickup name)) ok).0) in
+      let limits = and_parts (is_small_number n) (is_within 0 60 pickup) (not-false _ (passed (checks H o (AmendBranch n pickup name)) ok check.OutOfLimits)) in
       amended-keeps (BranchIn b) (n == b) (with_pickup pickup name) (branch_of H b) (inv.branches b)
       (λ z was. (was.0, (within 0 60 pickup limits.1).1, form.1.1.0)) r e
   branches-step _ form ok b r e = inv.branches b r e
@@ -160,7 +161,7 @@ module _ (H : History) (inv : SettingRanges H) (o : Owner) where
   weeks-step (Week n closed) form ok b = go (n == b)
     where
       go : (x : Bool) → AreWeekdays (cond x closed (week_of H b))
-      go true = record { seven = form.1.0; some_open = some-open closed (passed (checks H o (Week n closed)) ok).1.0 }
+      go true = record { seven = form.1.0; some_open = some-open closed (passed (checks H o (Week n closed)) ok check.AllWeekdaysClosed) }
       go false = inv.weeks b
   weeks-step _ form ok b = inv.weeks b
 
@@ -169,7 +170,7 @@ module _ (H : History) (inv : SettingRanges H) (o : Owner) where
   singles-step (CloseDay n day) form ok b d e = go (n == b) refl e
     where
       small : IsSmall n
-      small = small-branch n (passed (checks H o (CloseDay n day)) ok).0
+      small = small-branch n (passed (checks H o (CloseDay n day)) ok check.UnknownBranch)
 
       new : (x : Bool) → (day == d) ≡ x → n ≡ b → (x || is_single (singles_of H b) d) ≡ true → IsSmall b × IsDayNumber d
       new true q same f = (subst IsSmall same small, subst IsDayNumber (eqb-true day d q) form.1.0)
@@ -187,38 +188,38 @@ module _ (H : History) (inv : SettingRanges H) (o : Owner) where
 
   kinds-step : (x : Command) → refusal H o x ≡ None → (k : ℕ) (r : KindFacts) → kind_after x k (kind_of H k) ≡ Some r → KindIn k r
   kinds-step (Kind n loans holds debt) ok k r e =
-      let limits = kind-within n loans holds debt (not-false _ (passed (checks H o (Kind n loans holds debt)) ok).0) in
+      let limits = kind-within n loans holds debt (not-false _ (passed (checks H o (Kind n loans holds debt)) ok check.OutOfLimits)) in
       set-at KindIn n k (record { loans = loans; holds = holds; debt = debt }) (kind_of H k) limits (inv.kinds k) r e
   kinds-step _ ok k r e = inv.kinds k r e
 
   rules-step : (x : Command) → refusal H o x ≡ None → (k c : ℕ) (t : Terms) → rule_after x k c (rule_of H k c) ≡ Some t → RuleIn k c t
   rules-step (Rule n m period renewals rate most) ok k c t e =
-      let limits = rule-within n m period renewals rate most (not-false _ (passed (checks H o (Rule n m period renewals rate most)) ok).0) in
+      let limits = rule-within n m period renewals rate most (not-false _ (passed (checks H o (Rule n m period renewals rate most)) ok check.OutOfLimits)) in
       let terms : Terms = record { period = period; renewals = renewals; rate = rate; cap = most; grace = 0 } in
       let new : RuleIn n m terms = (limits.0, limits.1, (limits.2, limits.3, limits.4, limits.5, omega arith)) in
       set-if (RuleIn k c) ((n == k) && (m == c)) terms (rule_of H k c)
       (λ d. let q = and_parts _ _ d in subst (λ b. RuleIn k b terms) (eqb-true m c q.1)
       (subst (λ a. RuleIn a m terms) (eqb-true n k q.0) new)) (inv.rules k c) t e
   rules-step (Grace n m days) ok k c t e =
-      let most = grace-within n m days (not-false _ (passed (checks H o (Grace n m days)) ok).0) in
+      let most = grace-within n m days (not-false _ (passed (checks H o (Grace n m days)) ok check.OutOfLimits)) in
       amended-keeps (RuleIn k c) ((n == k) && (m == c)) (with_grace days) (rule_of H k c) (inv.rules k c) (λ z was. (was.0, was.1, (was.2.0, was.2.1, was.2.2, was.2.3, most))) t e
   rules-step _ ok k c t e = inv.rules k c t e
 
   patrons-step : (x : Command) → IsCommand x → refusal H o x ≡ None → (p : ℕ) (r : PatronFacts) → patron_after x p (patron_of H p) ≡ Some r → PatronIn p r
   patrons-step (Patron n k card_key name) form ok p r e =
-      let limits = and_parts (is_large_number n) (is_small_number k) (not-false _ (passed (checks H o (Patron n k card_key name)) ok).0) in
+      let limits = and_parts (is_large_number n) (is_small_number k) (not-false _ (passed (checks H o (Patron n k card_key name)) ok check.OutOfLimits)) in
       make-at PatronIn n p (record { kind = k; card_key = card_key; name = name }) (patron_of H p)
       (within 1 9999999 n limits.0, within 1 99 k limits.1, form.1.1.0, form.1.1.1.0) (inv.patrons p) r e
   patrons-step (SetCardKey n card_key) form ok p r e =
       amended-keeps (PatronIn p) (n == p) (with_card_key card_key) (patron_of H p) (inv.patrons p) (λ z was. (was.0, was.1, form.1.0, was.3)) r e
   patrons-step (AmendPatron n k name) form ok p r e =
-      let small = within 1 99 k (not-false _ (passed (checks H o (AmendPatron n k name)) ok).0) in
+      let small = within 1 99 k (not-false _ (passed (checks H o (AmendPatron n k name)) ok check.OutOfLimits)) in
       amended-keeps (PatronIn p) (n == p) (with_kind k name) (patron_of H p) (inv.patrons p) (λ z was. (was.0, small, was.2, form.1.1.0)) r e
   patrons-step _ form ok p r e = inv.patrons p r e
 
   titles-step : (x : Command) → IsCommand x → refusal H o x ≡ None → (t : ℕ) (text : List ℕ) → title_after x t (title_of H t) ≡ Some text → TitleIn t text
   titles-step (Acquire c n k home price name) form ok t text e =
-      let limits = copy-within c n k home price name (not-false _ (passed (checks H o (Acquire c n k home price name)) ok).0) in
+      let limits = copy-within c n k home price name (not-false _ (passed (checks H o (Acquire c n k home price name)) ok check.OutOfLimits)) in
       make-at TitleIn n t name (title_of H t) (limits.1, form.1.1.1.1.1.0) (inv.titles t) text e
   titles-step (AmendTitle n name) form ok t text e =
       amended-keeps (TitleIn t) (n == t) (λ old. name) (title_of H t) (inv.titles t) (λ z was. (was.0, form.1.0)) text e
@@ -227,15 +228,15 @@ module _ (H : History) (inv : SettingRanges H) (o : Owner) where
   copies-step : (x : Command) → refusal H o x ≡ None → (c : ℕ) (r : CopyFacts) → copy_after x c (copy_of H c) ≡ Some r → CopyIn c r
   copies-step (Acquire n t k home price text) ok c r e =
       let pass = passed (checks H o (Acquire n t k home price text)) ok in
-      let limits = copy-within n t k home price text (not-false _ pass.0) in
+      let limits = copy-within n t k home price text (not-false _ (pass check.OutOfLimits)) in
       make-at CopyIn n c (record { title = t; kind = k; home = home; price = price }) (copy_of H c)
-      (limits.0, limits.1, limits.2, small-branch home pass.1.0, limits.3) (inv.copies c) r e
+      (limits.0, limits.1, limits.2, small-branch home (pass check.UnknownBranch), limits.3) (inv.copies c) r e
   copies-step (AmendCopy n k price) ok c r e =
-      let limits = and_parts (is_small_number k) (is_within 0 1000000 price) (not-false _ (passed (checks H o (AmendCopy n k price)) ok).0) in
+      let limits = and_parts (is_small_number k) (is_within 0 1000000 price) (not-false _ (passed (checks H o (AmendCopy n k price)) ok check.OutOfLimits)) in
       amended-keeps (CopyIn c) (n == c) (with_price k price) (copy_of H c) (inv.copies c)
       (λ z was. (was.0, was.1, within 1 99 k limits.0, was.3, (within 0 1000000 price limits.1).1)) r e
   copies-step (Rehome n b) ok c r e =
-      let small = small-branch b (passed (checks H o (Rehome n b)) ok).0 in
+      let small = small-branch b (passed (checks H o (Rehome n b)) ok check.UnknownBranch) in
       amended-keeps (CopyIn c) (n == c) (with_home b) (copy_of H c) (inv.copies c) (λ z was. (was.0, was.1, was.2, small, was.4)) r e
   copies-step _ ok c r e = inv.copies c r e
 

@@ -8,6 +8,7 @@ use Rattle.std.proofs.lemmas.List.Folds.{list_any-append}
 use Rattle.terms.specs.declared.command.Command.{Command}
 use Rattle.terms.specs.declared.command.Command.TheVariants.{CheckOut, PlaceHold}
 use Rattle.terms.specs.declared.row.HoldState.{HoldState}
+use Rattle.terms.specs.declared.refusal.Refusal.TheVariants as check
 use Rattle.model.specs.History.{Event, History, numbers_to, today, loans, loans_after, next_loan, hold_made, hold_of, hold_after}
 use Rattle.model.specs.History.{holds, holds_after, next_hold}
 use Rattle.model.specs.Places.{state, is_waiting, is_ready, patron_of_hold}
@@ -152,7 +153,7 @@ module _ (e : Event) (H : History) (legal : IsLegal (e ∷ H)) (p : ℕ) where
 
       room : length (open_loans H q) < (kind_now H q).loans
       room = leb-false (kind_now H q).loans (length (open_loans H q))
-          (passed (checks H e.owner (CheckOut q c b)) (subst (λ x. refusal H e.owner x ≡ None) is legal.0.unrefused)).1.1.1.1.1.1.1.1.1.1.1.1.0
+          (passed (checks H e.owner (CheckOut q c b)) (subst (λ x. refusal H e.owner x ≡ None) is legal.0.unrefused) check.TooManyLoans)
 
       go : (y : Bool) → (q == p) ≡ y
           → length (filter (λ l. is_loan_of_patron (e ∷ H) p l && is_open_loan (e ∷ H) l) (numbers_to (loans H + 1)))
@@ -192,7 +193,7 @@ module _ (e : Event) (H : History) (legal : IsLegal (e ∷ H)) (p : ℕ) where
 
       room : length (active_holds H q) < (kind_now H q).holds
       room = leb-false (kind_now H q).holds (length (active_holds H q))
-          (passed (checks H e.owner (PlaceHold q t b day)) (subst (λ x. refusal H e.owner x ≡ None) is legal.0.unrefused)).1.1.1.1.1.1.0
+          (passed (checks H e.owner (PlaceHold q t b day)) (subst (λ x. refusal H e.owner x ≡ None) is legal.0.unrefused) check.TooManyHolds)
 
       go : (y : Bool) → (q == p) ≡ y
           → length (filter (λ h. (patron_of_hold (e ∷ H) h == p) && is_active (e ∷ H) h) (numbers_to (holds H + 1)))

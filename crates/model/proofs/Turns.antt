@@ -7,6 +7,7 @@ use Rattle.terms.specs.declared.command.Command.{Command}
 use Rattle.terms.specs.declared.command.Command.TheVariants.{CheckOut, CheckIn, Renew, CancelHold, Unshelve, UnshelveCancelled, Missing}
 use Rattle.terms.specs.declared.row.HoldState.{HoldState}
 use Rattle.terms.specs.declared.row.HoldState.TheVariants.{Waiting, Filled, Cancelled, Expired}
+use Rattle.terms.specs.declared.refusal.Refusal.TheVariants as check
 use Rattle.model.specs.History.{Event, History, HoldFacts, hold_made, holds, next_hold, numbers_to, copy_of}
 use Rattle.model.specs.Places.{Place, Nowhere, Shelf, HoldShelf, Transit, Loan, MissingCopy, WithdrawnCopy, place, state, line, is_begun}
 use Rattle.model.specs.Places.{title_of_copy, title_of_hold, patron_of_hold, goal_of, fills_by, fills_from, fills_first, state_after, state_made}
@@ -96,14 +97,14 @@ module _ (e : Event) (H : History) (inv : Invariant H) (p c b : ℕ) (is : e.com
   lent-in-turn o ok =
       let k = passed (checks H o (CheckOut p c b)) ok in
       lent-from (place H c) refl (record {
-        somewhere = acquired (not-false _ k.1.1.0);
-        withdrawn = k.1.1.1.0;
-        missing = k.1.1.1.1.0;
-        loan = k.1.1.1.1.1.0;
-        transit = k.1.1.1.1.1.1.0;
-        elsewhere = k.1.1.1.1.1.1.1.0;
-        other = k.1.1.1.1.1.1.1.1.0;
-        wanted = k.1.1.1.1.1.1.1.1.1.0;
+        somewhere = acquired (not-false _ (k check.UnknownCopy));
+        withdrawn = (k check.CopyWithdrawn);
+        missing = (k check.CopyMissing);
+        loan = (k check.OnLoan);
+        transit = (k check.InTransit);
+        elsewhere = (k check.Elsewhere);
+        other = (k check.OnHoldShelf);
+        wanted = (k check.HoldWaits);
       })
 
 -- ---- renewals
@@ -113,7 +114,7 @@ nobody [] e = refl
 nobody (x ∷ xs) e = let never : ⊥ = cc in absurd never
 
 renewed-in-turn : (H : History) (o : Owner) (l : ℕ) → refusal H o (Renew l) ≡ None → line H (title_of_loan H l) ≡ []
-renewed-in-turn H o l ok = nobody _ (passed (checks H o (Renew l)) ok).1.1.1.0
+renewed-in-turn H o l ok = nobody _ (passed (checks H o (Renew l)) ok check.HoldWaits)
 
 -- ---- what fills a hold
 
@@ -160,7 +161,7 @@ module _ (H : History) (h : ℕ) (unfilled : state H h ≢ Some Filled) where
     fills-own p c b ok (HoldShelf g) at e =
         let same : g ≡ h = eqb-true g h e in
         let k = passed (checks H o (CheckOut p c b)) ok in
-        let own : is_kept_for_other H p (HoldShelf g) ≡ false = subst (λ x. is_kept_for_other H p x ≡ false) at k.1.1.1.1.1.1.1.1.0 in (
+        let own : is_kept_for_other H p (HoldShelf g) ≡ false = subst (λ x. is_kept_for_other H p x ≡ false) at (k check.OnHoldShelf) in (
           subst (λ x. patron_of_hold H x ≡ p) same (same-number _ _ own),
           inv.of_title c h (rw at same),
         )

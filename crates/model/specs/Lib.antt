@@ -6,6 +6,7 @@ pub mod Loans
 pub mod Accounts
 pub mod Sights
 pub mod Refusals
+pub mod CheckOrder
 pub mod Pages
 pub mod Reports
 pub mod Asking

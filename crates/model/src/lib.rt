@@ -16,6 +16,7 @@ ghost use Rattle.model.specs.RowLaws.{RowsAreShown};
 ghost use Rattle.model.specs.ChargeLaws.{Charges};
 ghost use Rattle.model.specs.Renaming.{Anonymity, SwapsRename};
 ghost use Rattle.model.specs.Calendars.{CalendarsAgree};
+ghost use Rattle.model.specs.CheckOrder.{RefusedInOrder};
 ghost use Rattle.model.specs.Corrections.{Amended, Void};
 ghost use Rattle.model.specs.Forms.{FormsStay, FormsAreWhole, RowsInLimits, FewClosedDays};
 ghost use Rattle.model.specs.Invariant.{Invariants};
@@ -250,6 +251,12 @@ pub fn shelves_law()
 /// filled only by lending its patron a copy of its title.
 pub fn lent_in_turn_law()
     ensures { Turns }
+{}
+
+/// The checks of each command stand in the order of the table of refusals. Where several fail, the
+/// refusal is that of the first; where none fails, there is none.
+pub fn check_order_law()
+    ensures { RefusedInOrder }
 {}
 
 /// A check-out is accepted only while the patron has fewer open loans than the kind allows then, and
