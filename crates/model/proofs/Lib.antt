@@ -8,6 +8,14 @@ mod RowsAsking
 mod RowsSearching
 mod RowsCorrections
 mod RowsClosedDays
+mod RowsChecks
+mod RowsOrder
+mod RowsMoves
+mod RowsApart
+mod RowsTold
+mod RowsLists
+mod RowsPatrons
+mod RowsTables
 pub mod Amending
 pub mod Rehoming
 pub mod Passing

@@ -17,9 +17,9 @@ abbrev mondays : ℕ → ℕ → List Request
 mondays zero d = []
 mondays (suc n) d = by_desk (d ∷ []) (CloseDay 3 d) ∷ mondays n (d + 7)
 
--- With 400 Mondays closed the next single day is refused, and a due day lies behind them all.
+-- With 400 Mondays closed a day that is closed is told as such, the next single day is refused, and a due day lies behind them all.
 four_hundred_single_closed_days : Gives (after hill (mondays 400 20521))
-    (by_desk (codes "y") (CloseDay 3 23321) ∷ by_desk (codes "z") (CheckOut 1 40 3) ∷ [])
-    ("refused 21" ∷ "loan 1 due 2033-11-07" ∷ [])
+    (by_desk (codes "x") (CloseDay 3 20521) ∷ by_desk (codes "y") (CloseDay 3 23321) ∷ by_desk (codes "z") (CheckOut 1 40 3) ∷ [])
+    ("refused 24" ∷ "refused 21" ∷ "loan 1 due 2033-11-07" ∷ [])
 unfolding digits reply_text reply_words routed_words
 four_hundred_single_closed_days = gives refl
