@@ -1,3 +1,4 @@
+mod Examples
 pub mod DayLemmas
 pub mod NearLemmas
 pub mod OpeningLemmas

@@ -20,7 +20,7 @@ finds_marked : map (λ query. finds (utf8 query) (utf8 "Čeněk Dvořák")) ("dv
 unfolding fold folded begins_with occurs_in words finds chars encode
 finds_marked = refl
 
--- The first and the last letters of the table, the two that are no letters, and letters beyond it.
-folds : map (λ text. folded (utf8 text)) ("Àſ" ∷ "×÷" ∷ "Zß" ∷ "Ωж" ∷ []) ≡ map codes ("as" ∷ "×÷" ∷ "zs" ∷ "Ωж" ∷ [])
+-- The first and the last letters of the table, the two that are no letters, letters beyond it, and the neighbours of both ranges.
+folds : map (λ text. folded (utf8 text)) ("Àſ" ∷ "×÷" ∷ "Zß" ∷ "Ωж" ∷ "@AZ[" ∷ "0¿ƀ" ∷ []) ≡ map codes ("as" ∷ "×÷" ∷ "zs" ∷ "Ωж" ∷ "@az[" ∷ "0¿ƀ" ∷ [])
 unfolding fold folded chars encode
 folds = refl

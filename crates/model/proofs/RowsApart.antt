@@ -48,3 +48,10 @@ numbers_of_different_things : Gives ground
     ∷ "title 6 Six\nend" ∷ "title 10 Ten\nend" ∷ "patron 1 owed 0 name Ann Bell\npatron 3 owed 0 name Cy Dunn\nend" ∷ [])
 unfolding digits reply_text reply_words routed_words fold folded begins_with occurs_in words finds chars encode
 numbers_of_different_things = gives refl
+
+-- Who has no hold is shown all the same.
+a_borrower_without_holds : Gives ground
+    (desk (Ask (question.Borrower 1) ∷ Ask (question.Borrower 3) ∷ []))
+    ("patron 1 owed 0 name Ann Bell\nkind 1" ∷ "patron 3 owed 0 name Cy Dunn\nkind 1" ∷ [])
+unfolding digits reply_text reply_words routed_words
+a_borrower_without_holds = gives refl

@@ -113,6 +113,15 @@ calendar_ends : Gives ground
 unfolding digits reply_text reply_words routed_words
 calendar_ends = gives refl
 
+-- A renewal may come to the very last day of the calendar: two days that are closed move the first due day to 2192-01-02.
+last_day_of_the_calendar : Gives ground
+    (desk (Branch 3 5 (codes "Hill") ∷ Rule 1 3 365 99 20 100 ∷ Acquire 41 401 3 3 900 (codes "Last Light") ∷ BeginDay 80718 ∷ CloseDay 3 81083 ∷ CloseDay 3 81084
+    ∷ CheckOut 1 41 3 ∷ Renew 1 ∷ Renew 1 ∷ Renew 1 ∷ Renew 1 ∷ Renew 1 ∷ Renew 1 ∷ Renew 1 ∷ Renew 1 ∷ Renew 1 ∷ []))
+    ("ok" ∷ "ok" ∷ "ok" ∷ "ok" ∷ "ok" ∷ "ok" ∷ "loan 1 due 2192-01-02" ∷ "loan 1 due 2193-01-01" ∷ "loan 1 due 2194-01-01" ∷ "loan 1 due 2195-01-01"
+    ∷ "loan 1 due 2196-01-01" ∷ "loan 1 due 2196-12-31" ∷ "loan 1 due 2197-12-31" ∷ "loan 1 due 2198-12-31" ∷ "loan 1 due 2199-12-31" ∷ "refused 39" ∷ [])
+unfolding digits reply_text reply_words routed_words
+last_day_of_the_calendar = gives refl
+
 -- An unknown patron, a copy at another branch, and an unknown copy.
 unknown_numbers_are_refused : Gives ground (desk (Page 9 ∷ CheckOut 1 10 2 ∷ CheckOut 1 99 1 ∷ [])) ("refused 11" ∷ "refused 30" ∷ "refused 13" ∷ [])
 unfolding digits reply_text reply_words routed_words

@@ -1,7 +1,7 @@
 -- Worked examples of where copies go, and of the lists that show them on their way.
 use Rattle.std.specs.Prelude.{[], ◌∷◌, codes, refl, Some, None}
 use Rattle.std.specs.Fmt.{digits}
-use Rattle.terms.specs.declared.command.Command.TheVariants.{Acquire, CheckIn, PlaceHold, CancelHold, UnshelveCancelled, Missing, Page, Ask}
+use Rattle.terms.specs.declared.command.Command.TheVariants.{Acquire, CheckIn, PlaceHold, CancelHold, UnshelveCancelled, Missing, Page, Ask, Rehome}
 use Rattle.terms.specs.declared.question.Question.TheVariants as question
 use Rattle.terms.specs.Texts.{reply_text, reply_words, routed_words}
 use Rattle.model.proofs.Rows.{desk, Gives, gives, ground}
@@ -58,6 +58,18 @@ a_copy_travels_for_the_third_hold : Gives ground
     ∷ "patron 3 owed 0 name Cy Dunn\nhold 3 at 2 ready title 100 Rivers of the North" ∷ [])
 unfolding digits reply_text reply_words routed_words
 a_copy_travels_for_the_third_hold = gives refl
+
+-- A new copy, one with another home and one that is unshelved leave the others where they are.
+what_one_copy_does_leaves_the_others : Gives ground
+    (desk (CheckIn 10 2 ∷ Rehome 30 2 ∷ Rehome 11 1 ∷ Acquire 12 100 1 1 2500 (codes "Rivers of the North") ∷ Ask (question.Copy 10)
+    ∷ Acquire 10 100 1 1 2500 (codes "Rivers of the North") ∷ Ask (question.Copy 11) ∷ Ask (question.Copy 20) ∷ PlaceHold 2 100 1 None ∷ CheckIn 11 1
+    ∷ CheckIn 20 1 ∷ UnshelveCancelled 1 ∷ Ask (question.Copy 20) ∷ []))
+    ("fine 0 transit 1" ∷ "ok" ∷ "ok" ∷ "ok" ∷ "copy 10 home 1 kind 1 price 2500 title 100 Rivers of the North\ntransit 1" ∷ "ok"
+    ∷ "copy 11 home 1 kind 1 price 2500 title 100 Rivers of the North\nshelf 1" ∷ "copy 20 home 2 kind 1 price 1200 title 200 Salt Roads\nshelf 2"
+    ∷ "hold 1" ∷ "fine 0 ready 1 at 1 until 2026-03-07" ∷ "fine 0 transit 2" ∷ "shelf 1"
+    ∷ "copy 20 home 2 kind 1 price 1200 title 200 Salt Roads\ntransit 2" ∷ [])
+unfolding digits reply_text reply_words routed_words
+what_one_copy_does_leaves_the_others = gives refl
 
 -- A copy that is unshelved for a hold of another branch travels there, and the hold waits for it.
 a_hold_waits_while_its_copy_travels : Gives ground

@@ -1,19 +1,34 @@
 -- Worked examples of the order of checks, where two of them fail, and of the least numbers.
 use Rattle.std.specs.Prelude.{[], ◌∷◌, codes, refl, Some, None}
 use Rattle.std.specs.Fmt.{digits}
-use Rattle.terms.specs.declared.command.Command.TheVariants.{BeginDay, Branch, Kind, Rule, Grace, Patron, Acquire, CheckOut}
-use Rattle.terms.specs.declared.command.Command.TheVariants.{CheckIn, Renew, PlaceHold, CancelHold, Missing, AmendPatron, AmendBranch, AmendCopy}
+use Rattle.terms.specs.declared.command.Command.TheVariants.{BeginDay, Branch, Kind, Rule, Grace, Patron, Acquire, CheckOut, CheckIn}
+use Rattle.terms.specs.declared.command.Command.TheVariants.{Renew, PlaceHold, CancelHold, Unshelve, Missing, AmendPatron, AmendBranch, AmendCopy}
 use Rattle.terms.specs.Texts.{reply_text, reply_words, routed_words}
 use Rattle.model.proofs.Rows.{desk, Gives, gives, ground}
 
 -- Limits come first, then what has to be there, a branch before what is done at it; what a patron has on loan before how many holds there are.
 first_of_two_checks_is_told : Gives ground
     (desk (Branch 1 61 (codes "Main") ∷ Acquire 0 100 1 9 5 (codes "T") ∷ CheckIn 99 9 ∷ PlaceHold 2 100 9 (Some 20514) ∷ Rule 100 1 6 1 20 100
-    ∷ Grace 100 1 2 ∷ AmendBranch 100 5 (codes "X") ∷ AmendCopy 10 100 5 ∷ Kind 1 5 0 500 ∷ CheckOut 1 10 1 ∷ PlaceHold 1 100 1 None ∷ []))
-    ("refused 21" ∷ "refused 21" ∷ "refused 10" ∷ "refused 10" ∷ "refused 21" ∷ "refused 21" ∷ "refused 21" ∷ "refused 21" ∷ "ok"
-    ∷ "loan 1 due 2026-03-09" ∷ "refused 52" ∷ [])
+    ∷ Grace 100 1 2 ∷ Grace 2 1 3 ∷ Grace 1 2 3 ∷ AmendBranch 100 5 (codes "X") ∷ AmendCopy 10 100 5 ∷ Kind 1 5 0 500 ∷ CheckOut 1 10 1
+    ∷ PlaceHold 1 100 1 None ∷ []))
+    ("refused 21" ∷ "refused 21" ∷ "refused 10" ∷ "refused 10" ∷ "refused 21" ∷ "refused 21" ∷ "refused 16" ∷ "ok" ∷ "refused 21" ∷ "refused 21"
+    ∷ "ok" ∷ "loan 1 due 2026-03-09" ∷ "refused 52" ∷ [])
 unfolding digits reply_text reply_words routed_words
 first_of_two_checks_is_told = gives refl
+
+-- A bad day before a hold that is there, and the state of a hold before its limit.
+holds_are_checked_in_order : Gives ground
+    (desk (PlaceHold 2 100 1 None ∷ PlaceHold 2 100 1 (Some 20514) ∷ CheckIn 10 1 ∷ CheckOut 2 10 1 ∷ Unshelve 1 ∷ []))
+    ("hold 1" ∷ "refused 23" ∷ "fine 0 ready 1 at 1 until 2026-03-07" ∷ "loan 1 due 2026-03-09" ∷ "refused 53" ∷ [])
+unfolding digits reply_text reply_words routed_words
+holds_are_checked_in_order = gives refl
+
+-- A hold of another title keeps nobody from borrowing, and its branch is not that of this one.
+holds_of_other_titles : Gives ground
+    (desk (PlaceHold 1 200 2 None ∷ PlaceHold 2 100 1 None ∷ CheckIn 10 1 ∷ CheckOut 2 10 2 ∷ CheckOut 2 10 1 ∷ CheckOut 1 11 1 ∷ []))
+    ("hold 1" ∷ "hold 2" ∷ "fine 0 ready 2 at 1 until 2026-03-07" ∷ "refused 30" ∷ "loan 1 due 2026-03-09" ∷ "loan 2 due 2026-03-09" ∷ [])
+unfolding digits reply_text reply_words routed_words
+holds_of_other_titles = gives refl
 
 -- A hold of the title before a missing rule, the branch before whose hold it is, and the number of loans before the debt.
 check_outs_are_checked_in_order : Gives ground

@@ -72,3 +72,17 @@ shelf_report : shelf (after ground (desk (PlaceHold 2 100 1 None ∷ PlaceHold 3
     ∷ "ready 1" ∷ []))
 unfolding digits day_text civil_of
 shelf_report = refl
+
+-- Each line of a report ends with a newline.
+lines_of_reports : report_lines (codes "a" ∷ [] ∷ codes "b c" ∷ []) ≡ codes "a\n\nb c\n"
+lines_of_reports = refl
+
+-- Two loans of the second patron on a Sunday, the first of another patron having ended: one is late by that Sunday alone, the other by five open days.
+overdue_second_and_third_loan : overdue (after ground (desk (CheckOut 1 20 2 ∷ CheckIn 20 2 ∷ CheckOut 2 30 1 ∷ CheckOut 2 10 1 ∷ BeginDay 20527 ∷ []))) 1
+    ≡ report_lines (map codes (
+    "      loan  patron    copy due         late title"
+    ∷ "         2       2      30 2026-03-14     0 Night Ferries"
+    ∷ "         3       2      10 2026-03-09     5 Rivers of the North"
+    ∷ "overdue 2" ∷ []))
+unfolding digits day_text civil_of
+overdue_second_and_third_loan = refl

@@ -166,14 +166,14 @@ transit_rows_of_corrected : map (picture corrected).transits (10 ∷ 20 ∷ 30 �
 unfolding digits
 transit_rows_of_corrected = refl
 
--- Rules of two kinds of patrons, of which one gets grace days; a new branch; a loan of another kind; a ready hold when another becomes ready later.
+-- Rules of two kinds of patrons, of which one has grace days; a new branch; a loan of another kind; a ready hold when another becomes ready later.
 abbrev apart : History
-apart = after ground (desk (Kind 2 7 8 900 ∷ Rule 2 1 9 3 10 50 ∷ Grace 1 1 4 ∷ AmendPatron 2 2 (codes "Bo Carr") ∷ Branch 3 4 (codes "Hill") ∷ CheckOut 2 11 1
+apart = after ground (desk (Kind 2 7 8 900 ∷ Rule 2 1 9 3 10 50 ∷ Grace 1 1 4 ∷ Grace 1 2 5 ∷ AmendPatron 2 2 (codes "Bo Carr") ∷ Branch 3 4 (codes "Hill") ∷ CheckOut 2 11 1
     ∷ PlaceHold 3 100 1 None ∷ CheckIn 10 1 ∷ PlaceHold 1 200 2 None ∷ BeginDay 20516 ∷ CheckIn 20 2 ∷ []))
 
 rule_rows_of_apart : (picture apart).rules 1 1 ∷ (picture apart).rules 1 2 ∷ (picture apart).rules 2 1 ∷ (picture apart).rules 2 2 ∷ []
     ≡ Some (record { kind = 1; copy_kind = 1; period = 6; renewals = 1; rate = 20; cap = 100; grace = 4 })
-    ∷ Some (record { kind = 1; copy_kind = 2; period = 12; renewals = 1; rate = 20; cap = 100; grace = 0 })
+    ∷ Some (record { kind = 1; copy_kind = 2; period = 12; renewals = 1; rate = 20; cap = 100; grace = 5 })
     ∷ Some (record { kind = 2; copy_kind = 1; period = 9; renewals = 3; rate = 10; cap = 50; grace = 0 }) ∷ None ∷ []
 unfolding digits
 rule_rows_of_apart = refl
@@ -200,6 +200,10 @@ hold_rows_of_apart = refl
 meta_row_of_apart : (picture apart).meta ≡ record { schema = 3; today = 20516; next_loan = 2; next_hold = 3; next_line = 1 }
 unfolding digits
 meta_row_of_apart = refl
+
+meta_row_of_ground : (picture ground).meta ≡ record { schema = 3; today = 20514; next_loan = 1; next_hold = 1; next_line = 1 }
+unfolding digits
+meta_row_of_ground = refl
 
 -- The tables of older schemas are empty.
 older_tables_of_worked : (picture worked).rules1 1 1 ≡ None

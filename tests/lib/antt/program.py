@@ -5,7 +5,7 @@ import os
 import re
 from collections import namedtuple
 
-from lib.antt.reading import Clause, Node, Reader, Unread, bare, children, items
+from lib.antt.reading import Clause, Reader, Unread, bare, children, items
 
 # What a name can mean.
 Defined = namedtuple("Defined", "module name")
@@ -329,5 +329,3 @@ class Program:
                 left += self.uses(key)
         return found
 
-
-__all__ = ["Program", "Definition", "Module", "Defined", "Constructor", "Word", "Constant", "Alias", "Node", "NAT", "BOOL", "TEXT"]
