@@ -59,6 +59,10 @@ counted_by_weekdays : map (open_weekdays_among sundays 20514) (0 ∷ 1 ∷ 6 ∷
 unfolding open_weekdays_among
 counted_by_weekdays = refl
 
+counted_from_a_saturday : map (open_weekdays_among sundays 20519) (1 ∷ 2 ∷ 7 ∷ 8 ∷ []) ≡ 0 ∷ 1 ∷ 6 ∷ 6 ∷ []
+unfolding open_weekdays_among
+counted_from_a_saturday = refl
+
 singles_on_open_weekdays : map (singles_among sundays (20515 ∷ 20520 ∷ 20521 ∷ []) 20514) (0 ∷ 1 ∷ 6 ∷ 7 ∷ []) ≡ 0 ∷ 1 ∷ 1 ∷ 2 ∷ []
 unfolding singles_among
 singles_on_open_weekdays = refl

@@ -1,10 +1,10 @@
 -- Worked examples of texts: one for each command and question, and one for each form of a reply. Day 11016 is 2000-02-29.
-use Rattle.std.specs.Prelude.{◌≡◌, List, [], ◌∷◌, map, codes, option_map, refl, Some, None, true, false}
+use Rattle.std.specs.Prelude.{◌≡◌, List, [], ◌∷◌, map, codes, option_map, replicate, refl, Some, None, true, false}
 use Rattle.std.specs.Fmt.{digits}
 use Rattle.calendar.specs.Days.{day_text, civil_of}
 use Rattle.terms.specs.Callers.{owner_of, owner_number}
 use Rattle.terms.specs.Commands.{commands, parts_in, kind_of}
-use Rattle.terms.specs.Forms.{is_name, is_card_key, is_outside_key, is_key}
+use Rattle.terms.specs.Forms.{is_name, is_alphanumeric, is_card_key, is_outside_key, is_key}
 use Rattle.terms.specs.Money.{fine_for}
 use Rattle.terms.specs.Texts.{said, mask_text, command_words, request_text, routed_words, refusal_number, fault_number, service_fault_number, reply_words, reply_text}
 use Rattle.terms.specs.declared.command.Caller.TheVariants as caller
@@ -147,6 +147,15 @@ keys_from_outside : map is_outside_key
     ≡ false ∷ true ∷ true ∷ false ∷ true ∷ false ∷ []
 unfolding is_outside_key
 keys_from_outside = refl
+
+-- Letters and digits, and their neighbours among the bytes.
+letters_and_digits : map is_alphanumeric (47 ∷ 48 ∷ 57 ∷ 58 ∷ 64 ∷ 65 ∷ 90 ∷ 91 ∷ 96 ∷ 97 ∷ 122 ∷ 123 ∷ [])
+    ≡ false ∷ true ∷ true ∷ false ∷ false ∷ true ∷ true ∷ false ∷ false ∷ true ∷ true ∷ false ∷ []
+letters_and_digits = refl
+
+longest_name : map (λ n. is_name (replicate n 65)) (120 ∷ 121 ∷ []) ≡ true ∷ false ∷ []
+unfolding is_name
+longest_name = refl
 
 any_keys : map is_key ([] ∷ codes "a1" ∷ codes "a b" ∷ codes "a_b" ∷ []) ≡ false ∷ true ∷ true ∷ false ∷ []
 unfolding is_outside_key
