@@ -185,7 +185,18 @@ branch_row_of_apart = refl
 -- The loan's period ends on Wednesday 2026-03-11, day 20523.
 loan_row_of_apart : (picture apart).loans 1
     ≡ Some (record {
-      loan = 1; copy = 11; patron = 2; branch = 1; made = 20514; due = 20523; period = 9; renewals_left = 3; rate = 10; cap = 50; ended = None; grace = 0;
+      loan = 1;
+      copy = 11;
+      patron = 2;
+      branch = 1;
+      made = 20514;
+      due = 20523;
+      period = 9;
+      renewals_left = 3;
+      rate = 10;
+      cap = 50;
+      ended = None;
+      grace = 0;
     })
 unfolding digits
 loan_row_of_apart = refl
