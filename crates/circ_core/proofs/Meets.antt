@@ -6,6 +6,7 @@ use Rattle.terms.specs.declared.command.Owner.TheVariants.{Desk}
 use Rattle.terms.specs.declared.command.Command.{Command}
 use Rattle.terms.specs.declared.refusal.Refusal.{Refusal}
 use Rattle.terms.specs.declared.reply.Reply.{Reply}
+use Rattle.model.specs.CheckOrder.{ArePassed}
 use Rattle.model.specs.Checks.{Check, first_failing}
 use Rattle.model.specs.History.{History}
 use Rattle.model.specs.Refusals.{checks, refusal}
@@ -15,11 +16,6 @@ use Rattle.circ_core.specs.declared.changes.RowChange.{RowChange}
 use Rattle.circ_core.specs.Tables.{changed, SameRows}
 use Rattle.circ_core.specs.Decided.{Decided}
 use Rattle.circ_core.specs.Decides.{Decides, IsDecision, reply_due, event}
-
--- No check fails.
-abbrev pub ArePassed : List Check → Type 0
-ArePassed [] = Unit {0}
-ArePassed (k ∷ ks) = (k.1 ≡ false) × ArePassed ks
 
 -- The same checks in the same order, of a later one only if the earlier ones pass; and after them checks that no legal history fails.
 abbrev pub SameChecks : List Check → List Check → Type 0

@@ -11,7 +11,7 @@ use Rattle.terms.specs.declared.command.Command.TheVariants.{Missing, Withdraw, 
 use Rattle.terms.specs.declared.question.Question.{Question}
 use Rattle.terms.specs.declared.question.Question.TheVariants as question
 use Rattle.terms.specs.declared.refusal.Refusal.{Refusal}
-use Rattle.model.specs.CheckOrder.{AllPass, IsFirstFailing, RefusedInOrder, refusals_asked, refusals_in_order}
+use Rattle.model.specs.CheckOrder.{ArePassed, IsFirstFailing, RefusedInOrder, refusals_asked, refusals_in_order}
 use Rattle.model.specs.Checks.{Check, first_failing}
 use Rattle.model.specs.History.{History}
 use Rattle.model.specs.Refusals.{checks, checks_asked}
@@ -81,12 +81,12 @@ first-of : (ks : List Check) → IfSome (first_failing ks) (λ r. IsFirstFailing
 first-of [] = tt
 first-of (k ∷ ks) = first-from k ks (first-of ks) k.1 refl
 
-all-from : (k : Check) (ks : List Check) → (first_failing ks ≡ None → AllPass ks) → (b : Bool) → k.1 ≡ b
-    → ◌≡◌ {A = Option Refusal} (elim b [ true ↦ Some k.0 | false ↦ first_failing ks ]) None → AllPass (k ∷ ks)
+all-from : (k : Check) (ks : List Check) → (first_failing ks ≡ None → ArePassed ks) → (b : Bool) → k.1 ≡ b
+    → ◌≡◌ {A = Option Refusal} (elim b [ true ↦ Some k.0 | false ↦ first_failing ks ]) None → ArePassed (k ∷ ks)
 all-from k ks more true p e = let no : ⊥ = cc in absurd no
 all-from k ks more false p e = (p, more e)
 
-all-pass : (ks : List Check) → first_failing ks ≡ None → AllPass ks
+all-pass : (ks : List Check) → first_failing ks ≡ None → ArePassed ks
 all-pass [] e = tt
 all-pass (k ∷ ks) e = all-from k ks (all-pass ks) k.1 refl e
 

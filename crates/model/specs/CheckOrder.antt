@@ -65,22 +65,22 @@ refusals_in_order (Page p) = 11 ∷ []
 refusals_in_order (Ask question) = refusals_asked question
 
 -- Each check passes.
-abbrev pub AllPass : List Check → Type 0
-AllPass = AllByRecursion (λ k. k.1 ≡ false)
+abbrev pub ArePassed : List Check → Type 0
+ArePassed = AllByRecursion (λ k. k.1 ≡ false)
 
 -- The check with this refusal fails, and each one before it passes.
 pub record IsFirstFailing (refused : Refusal) (ks : List Check) : Type 0 where
   pub before : List Check
   pub after : List Check
   pub is : ks ≡ before ++ (refused, true) ∷ after
-  pub passed : AllPass before
+  pub passed : ArePassed before
 
 -- The checks of a command stand in that order. The refusal is that of the first one that fails, and there is
 -- none only if each passes.
 pub record IsRefusedInOrder (H : History) (o : Owner) (c : Command) : Type 0 where
   pub order : map (λ (k : Check). refusal_number k.0) (checks H o c) ≡ refusals_in_order c
   pub first : IfSome (refusal H o c) (λ refused. IsFirstFailing refused (checks H o c))
-  pub none : refusal H o c ≡ None → AllPass (checks H o c)
+  pub none : refusal H o c ≡ None → ArePassed (checks H o c)
 
 -- Whichever command comes after whichever history.
 abbrev pub RefusedInOrder : Type 0
