@@ -6,7 +6,7 @@ use Rattle.store.specs.Migrating.{Migrates, IsLibrary}
 use Rattle.store.specs.Schemas.{IsKnown, IsOlder}
 use Rattle.store.specs.Stops.{KeepsPicture, KeepsPictureAt, LeavesPicture}
 use Rattle.circ_tables.specs.Encoding.{HasPictureAt}
-use Rattle.circ_tables.specs.Shape.{since_first}
+use Rattle.circ_tables.specs.TableSchemas.{since_first}
 use Rattle.terms.specs.Limits.{InLimits}
 use Rattle.terms.specs.Schemas.{IsOfSchema, led_by, led_to_3}
 use Rattle.terms.specs.Texts.{fault_number}

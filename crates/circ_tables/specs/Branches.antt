@@ -11,10 +11,12 @@ use Rattle.terms.specs.Limits.{IsBranch}
 use Rattle.terms.specs.Pictures.{put}
 use Rattle.terms.specs.declared.row.BranchRow.{BranchRow}
 use Rattle.circ_tables.specs.Cells.{number_key, branch_cells}
-use Rattle.circ_tables.specs.Encoding.{IsEncoded, Any, all_held, to_list, from_list, with_held}
+use Rattle.circ_tables.specs.Encoding.{IsEncoded, Any}
+use Rattle.circ_tables.specs.TableMaps.{all_held, to_list, from_list, with_held}
 use Rattle.circ_tables.specs.Numbered.{IsNumbered, IsNumberTable, grown, in_each, put_terms, put_shows, nat_of, text_of}
 use Rattle.circ_tables.specs.Reading.{Table}
 use Rattle.circ_tables.specs.Shape as shape
+use Rattle.circ_tables.specs.TableSchemas.{has_first}
 
 abbrev pub branches : Table ℕ BranchRow
 branches = record {
@@ -46,7 +48,7 @@ texts_are more others = record {
 
 pub branches_are : IsNumberTable branches (λ r. r.branch)
 branches_are = record {
-  newest = shape.has_first;
+  newest = has_first;
   texts = in_each shape.branches_place shape.branches texts_are;
   keyed = λ k. refl;
   first_cell = λ r. refl;

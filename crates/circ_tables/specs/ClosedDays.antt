@@ -14,6 +14,7 @@ use Rattle.circ_tables.specs.Numbered.{grown}
 use Rattle.circ_tables.specs.Paired.{IsPaired, IsCalm, IsAimed, in_each}
 use Rattle.circ_tables.specs.Reading.{Table}
 use Rattle.circ_tables.specs.Shape as shape
+use Rattle.circ_tables.specs.TableSchemas.{since_first}
 
 abbrev pub closed_days : Table Pair ClosedDayRow
 closed_days = record {
@@ -50,5 +51,5 @@ texts_are more others calm aimed = record {
 
 pub closed_days_are : (n : ℕ) → shape.HasTable 1 n → IsPaired (shape.schema_at n) shape.closed_days_place shape.closed_days
 closed_days_are = in_each shape.closed_days_place shape.closed_days texts_are
-    (shape.since_first (λ n. IsAimed (shape.schema_at n) shape.closed_days) (λ r new. or_false _) (λ r new. or_false _)
+    (since_first (λ n. IsAimed (shape.schema_at n) shape.closed_days) (λ r new. or_false _) (λ r new. or_false _)
     (λ r new. or_false _))

@@ -12,10 +12,12 @@ use Rattle.terms.specs.declared.row.Condition.{Condition}
 use Rattle.terms.specs.declared.row.Condition.TheVariants.{Present, Missing, Withdrawn}
 use Rattle.terms.specs.declared.row.CopyRow.{CopyRow}
 use Rattle.circ_tables.specs.Cells.{number_key, condition_number, copy_cells}
-use Rattle.circ_tables.specs.Encoding.{IsEncoded, Any, all_held, to_list, from_list, with_held}
+use Rattle.circ_tables.specs.Encoding.{IsEncoded, Any}
+use Rattle.circ_tables.specs.TableMaps.{all_held, to_list, from_list, with_held}
 use Rattle.circ_tables.specs.Numbered.{IsNumbered, IsNumberTable, grown, in_each, put_terms, put_shows, nat_of}
 use Rattle.circ_tables.specs.Reading.{Table}
 use Rattle.circ_tables.specs.Shape as shape
+use Rattle.circ_tables.specs.TableSchemas.{has_first}
 
 abbrev pub copies : Table ℕ CopyRow
 copies = record {
@@ -57,7 +59,7 @@ texts_are more others = record {
 
 pub copies_are : IsNumberTable copies (λ r. r.copy)
 copies_are = record {
-  newest = shape.has_first;
+  newest = has_first;
   texts = in_each shape.copies_place shape.copies texts_are;
   keyed = λ k. refl;
   first_cell = λ r. refl;

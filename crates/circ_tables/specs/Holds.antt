@@ -14,10 +14,12 @@ use Rattle.terms.specs.declared.row.HoldRow.{HoldRow}
 use Rattle.terms.specs.declared.row.HoldState.{HoldState}
 use Rattle.terms.specs.declared.row.HoldState.TheVariants.{Waiting, Ready, Filled, Cancelled, Expired}
 use Rattle.circ_tables.specs.Cells.{optional, number_key, state_number, hold_cells}
-use Rattle.circ_tables.specs.Encoding.{IsEncoded, Any, all_held, to_list, from_list, with_held}
+use Rattle.circ_tables.specs.Encoding.{IsEncoded, Any}
+use Rattle.circ_tables.specs.TableMaps.{all_held, to_list, from_list, with_held}
 use Rattle.circ_tables.specs.Numbered.{IsNumbered, IsNumberTable, grown_from, put_terms, put_shows, nat_of, option_of, option_back, optional_suits}
 use Rattle.circ_tables.specs.Reading.{Table}
 use Rattle.circ_tables.specs.Shape as shape
+use Rattle.circ_tables.specs.TableSchemas.{has_second, since_second}
 
 abbrev pub holds : Table ℕ HoldRow
 holds = record {
@@ -63,8 +65,8 @@ texts_are more others = record {
 
 pub holds_are : IsNumberTable holds (λ r. r.hold)
 holds_are = record {
-  newest = shape.has_second;
-  texts = shape.since_second (λ n. IsNumbered (shape.schema_at n) shape.holds_place shape.holds) (texts_are [] [])
+  newest = has_second;
+  texts = since_second (λ n. IsNumbered (shape.schema_at n) shape.holds_place shape.holds) (texts_are [] [])
       (texts_are (shape.tables_after shape.second 3) (shape.indexes_after shape.second 3));
   keyed = λ k. refl;
   first_cell = λ r. refl;

@@ -12,11 +12,13 @@ use Rattle.terms.specs.Limits.{IsHold1}
 use Rattle.terms.specs.Pictures.{put}
 use Rattle.terms.specs.declared.row.HoldRow1.{HoldRow1}
 use Rattle.circ_tables.specs.Cells.{optional, number_key, hold1_cells}
-use Rattle.circ_tables.specs.Encoding.{IsEncoded, Any, all_held, to_list, from_list, with_held}
+use Rattle.circ_tables.specs.Encoding.{IsEncoded, Any}
+use Rattle.circ_tables.specs.TableMaps.{all_held, to_list, from_list, with_held}
 use Rattle.circ_tables.specs.Holds.{state_of, state_back}
 use Rattle.circ_tables.specs.Numbered.{IsNumbered, IsNumberTable, grown, in_each, put_terms, put_shows, nat_of, option_of, option_back, optional_suits}
 use Rattle.circ_tables.specs.Reading.{Table}
 use Rattle.circ_tables.specs.Shape as shape
+use Rattle.circ_tables.specs.TableSchemas.{has_first}
 
 abbrev pub holds1 : Table ℕ HoldRow1
 holds1 = record {
@@ -48,7 +50,7 @@ texts_are more others = record {
 
 pub holds1_are : IsNumberTable holds1 (λ r. r.hold)
 holds1_are = record {
-  newest = shape.has_first;
+  newest = has_first;
   texts = in_each shape.holds1_place shape.holds1 texts_are;
   keyed = λ k. refl;
   first_cell = λ r. refl;

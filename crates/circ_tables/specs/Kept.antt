@@ -15,6 +15,7 @@ use Rattle.circ_tables.specs.Numbered.{grown}
 use Rattle.circ_tables.specs.Paired.{IsPaired, IsCalm, IsAimed, in_each}
 use Rattle.circ_tables.specs.Reading.{Table}
 use Rattle.circ_tables.specs.Shape as shape
+use Rattle.circ_tables.specs.TableSchemas.{since_first}
 
 abbrev pub kept : Table (Owner × List ℕ) KeptRow
 kept = record {
@@ -51,4 +52,4 @@ texts_are more others calm aimed = record {
 
 pub kept_are : (n : ℕ) → shape.HasTable 1 n → IsPaired (shape.schema_at n) shape.kept_place shape.kept
 kept_are = in_each shape.kept_place shape.kept texts_are
-    (shape.since_first (λ n. IsAimed (shape.schema_at n) shape.kept) (λ r new. or_false _) (λ r new. or_false _) (λ r new. or_false _))
+    (since_first (λ n. IsAimed (shape.schema_at n) shape.kept) (λ r new. or_false _) (λ r new. or_false _) (λ r new. or_false _))

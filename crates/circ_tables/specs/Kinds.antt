@@ -10,10 +10,12 @@ use Rattle.terms.specs.Limits.{IsKind}
 use Rattle.terms.specs.Pictures.{put}
 use Rattle.terms.specs.declared.row.KindRow.{KindRow}
 use Rattle.circ_tables.specs.Cells.{number_key, kind_cells}
-use Rattle.circ_tables.specs.Encoding.{IsEncoded, Any, all_held, to_list, from_list, with_held}
+use Rattle.circ_tables.specs.Encoding.{IsEncoded, Any}
+use Rattle.circ_tables.specs.TableMaps.{all_held, to_list, from_list, with_held}
 use Rattle.circ_tables.specs.Numbered.{IsNumbered, IsNumberTable, grown, in_each, put_terms, put_shows, nat_of}
 use Rattle.circ_tables.specs.Reading.{Table}
 use Rattle.circ_tables.specs.Shape as shape
+use Rattle.circ_tables.specs.TableSchemas.{has_first}
 
 abbrev pub kinds : Table ℕ KindRow
 kinds = record {
@@ -45,7 +47,7 @@ texts_are more others = record {
 
 pub kinds_are : IsNumberTable kinds (λ r. r.kind)
 kinds_are = record {
-  newest = shape.has_first;
+  newest = has_first;
   texts = in_each shape.kinds_place shape.kinds texts_are;
   keyed = λ k. refl;
   first_cell = λ r. refl;

@@ -24,3 +24,5 @@ pub mod HoldsOfSchema1
 pub mod Transits
 pub mod Lines
 pub mod Kept
+pub mod TableMaps
+pub mod TableSchemas

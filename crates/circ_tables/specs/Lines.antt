@@ -13,10 +13,12 @@ use Rattle.terms.specs.declared.row.LineRow.{LineRow}
 use Rattle.terms.specs.declared.row.Sort.{Sort}
 use Rattle.terms.specs.declared.row.Sort.TheVariants.{Fine, Price, Payment, Waiver}
 use Rattle.circ_tables.specs.Cells.{number_key, sort_number, line_cells}
-use Rattle.circ_tables.specs.Encoding.{IsEncoded, Any, all_held, to_list, from_list, with_held}
+use Rattle.circ_tables.specs.Encoding.{IsEncoded, Any}
+use Rattle.circ_tables.specs.TableMaps.{all_held, to_list, from_list, with_held}
 use Rattle.circ_tables.specs.Numbered.{IsNumbered, IsNumberTable, grown, in_each, put_terms, put_shows, nat_of, option_of, option_back, optional_suits}
 use Rattle.circ_tables.specs.Reading.{Table}
 use Rattle.circ_tables.specs.Shape as shape
+use Rattle.circ_tables.specs.TableSchemas.{has_first}
 
 abbrev pub lines : Table ℕ LineRow
 lines = record {
@@ -60,7 +62,7 @@ texts_are more others = record {
 
 pub lines_are : IsNumberTable lines (λ r. r.line)
 lines_are = record {
-  newest = shape.has_first;
+  newest = has_first;
   texts = in_each shape.lines_place shape.lines texts_are;
   keyed = λ k. refl;
   first_cell = λ r. refl;

@@ -10,10 +10,12 @@ use Rattle.terms.specs.Limits.{IsLoan}
 use Rattle.terms.specs.Pictures.{put}
 use Rattle.terms.specs.declared.row.LoanRow.{LoanRow}
 use Rattle.circ_tables.specs.Cells.{number, number_key, loan_cells}
-use Rattle.circ_tables.specs.Encoding.{IsEncoded, Any, all_held, to_list, from_list, with_held}
+use Rattle.circ_tables.specs.Encoding.{IsEncoded, Any}
+use Rattle.circ_tables.specs.TableMaps.{all_held, to_list, from_list, with_held}
 use Rattle.circ_tables.specs.Numbered.{IsNumbered, IsNumberTable, put_terms, put_shows, nat_of, option_of, option_back, optional_suits}
 use Rattle.circ_tables.specs.Reading.{Table}
 use Rattle.circ_tables.specs.Shape as shape
+use Rattle.circ_tables.specs.TableSchemas.{has_third, since_third}
 
 abbrev pub loans : Table ℕ LoanRow
 loans = record {
@@ -45,8 +47,8 @@ texts_are = record {
 
 pub loans_are : IsNumberTable loans (λ r. r.loan)
 loans_are = record {
-  newest = shape.has_third;
-  texts = shape.since_third (λ n. IsNumbered (shape.schema_at n) shape.loans_place shape.loans) texts_are;
+  newest = has_third;
+  texts = since_third (λ n. IsNumbered (shape.schema_at n) shape.loans_place shape.loans) texts_are;
   keyed = λ k. refl;
   first_cell = λ r. refl;
   from_one = λ r legal. legal.0.0;

@@ -11,10 +11,12 @@ use Rattle.terms.specs.Limits.{IsLoan1}
 use Rattle.terms.specs.Pictures.{put}
 use Rattle.terms.specs.declared.row.LoanRow1.{LoanRow1}
 use Rattle.circ_tables.specs.Cells.{number_key, loan1_cells}
-use Rattle.circ_tables.specs.Encoding.{IsEncoded, Any, all_held, to_list, from_list, with_held}
+use Rattle.circ_tables.specs.Encoding.{IsEncoded, Any}
+use Rattle.circ_tables.specs.TableMaps.{all_held, to_list, from_list, with_held}
 use Rattle.circ_tables.specs.Numbered.{IsNumbered, IsNumberTable, grown, in_each, put_terms, put_shows, nat_of, option_of, option_back, optional_suits}
 use Rattle.circ_tables.specs.Reading.{Table}
 use Rattle.circ_tables.specs.Shape as shape
+use Rattle.circ_tables.specs.TableSchemas.{has_first}
 
 abbrev pub loans1 : Table ℕ LoanRow1
 loans1 = record {
@@ -46,7 +48,7 @@ texts_are more others = record {
 
 pub loans1_are : IsNumberTable loans1 (λ r. r.loan)
 loans1_are = record {
-  newest = shape.has_first;
+  newest = has_first;
   texts = in_each shape.loans1_place shape.loans1 texts_are;
   keyed = λ k. refl;
   first_cell = λ r. refl;

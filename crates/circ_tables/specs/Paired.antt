@@ -27,7 +27,8 @@ use Rattle.sql_maps.proofs.Words.{over, in_order_of}
 use Rattle.sql_maps.proofs.AnswerLemmas.{shown_of}
 use Rattle.sql_maps.proofs.WriteLemmas.{Fixed, id_test}
 use Rattle.circ_tables.specs.Numbered.{IsRun, IsRead, grown, schema_grown}
-use Rattle.circ_tables.specs.Shape.{schema_at, HasTable, since_first, later_tables, later_indexes}
+use Rattle.circ_tables.specs.Shape.{schema_at, HasTable, later_tables, later_indexes}
+use Rattle.circ_tables.specs.TableSchemas.{since_first}
 use Rattle.circ_tables.specs.Texts.{kept_columns, names_of, put_text, take_text, get_text, all_text}
 
 -- The key equals the first and second parameters.

@@ -10,10 +10,12 @@ use Rattle.terms.specs.Limits.{IsPatron}
 use Rattle.terms.specs.Pictures.{put}
 use Rattle.terms.specs.declared.row.PatronRow.{PatronRow}
 use Rattle.circ_tables.specs.Cells.{number_key, patron_cells}
-use Rattle.circ_tables.specs.Encoding.{IsEncoded, Any, all_held, to_list, from_list, with_held}
+use Rattle.circ_tables.specs.Encoding.{IsEncoded, Any}
+use Rattle.circ_tables.specs.TableMaps.{all_held, to_list, from_list, with_held}
 use Rattle.circ_tables.specs.Numbered.{IsNumbered, IsNumberTable, grown, in_each, put_terms, put_shows, nat_of, text_of}
 use Rattle.circ_tables.specs.Reading.{Table}
 use Rattle.circ_tables.specs.Shape as shape
+use Rattle.circ_tables.specs.TableSchemas.{has_first}
 
 abbrev pub patrons : Table ℕ PatronRow
 patrons = record {
@@ -45,7 +47,7 @@ texts_are more others = record {
 
 pub patrons_are : IsNumberTable patrons (λ r. r.patron)
 patrons_are = record {
-  newest = shape.has_first;
+  newest = has_first;
   texts = in_each shape.patrons_place shape.patrons texts_are;
   keyed = λ k. refl;
   first_cell = λ r. refl;

@@ -12,6 +12,7 @@ use Rattle.circ_tables.specs.Encoding.{Pair}
 use Rattle.circ_tables.specs.Paired.{IsPaired}
 use Rattle.circ_tables.specs.Reading.{Table}
 use Rattle.circ_tables.specs.Shape as shape
+use Rattle.circ_tables.specs.TableSchemas.{since_third}
 
 abbrev pub rules : Table Pair RuleRow
 rules = record {
@@ -47,4 +48,4 @@ texts_are = record {
 }
 
 pub rules_are : (n : ℕ) → shape.HasTable 3 n → IsPaired (shape.schema_at n) shape.rules_place shape.rules
-rules_are = shape.since_third (λ n. IsPaired (shape.schema_at n) shape.rules_place shape.rules) texts_are
+rules_are = since_third (λ n. IsPaired (shape.schema_at n) shape.rules_place shape.rules) texts_are

@@ -15,6 +15,7 @@ use Rattle.circ_tables.specs.Numbered.{grown}
 use Rattle.circ_tables.specs.Paired.{IsPaired, IsCalm, IsAimed, in_each}
 use Rattle.circ_tables.specs.Reading.{Table}
 use Rattle.circ_tables.specs.Shape as shape
+use Rattle.circ_tables.specs.TableSchemas.{since_first}
 
 abbrev pub rules1 : Table Pair RuleRow1
 rules1 = record {
@@ -51,4 +52,4 @@ texts_are more others calm aimed = record {
 
 pub rules1_are : (n : ℕ) → shape.HasTable 1 n → IsPaired (shape.schema_at n) shape.rules1_place shape.rules1
 rules1_are = in_each shape.rules1_place shape.rules1 texts_are
-    (shape.since_first (λ n. IsAimed (shape.schema_at n) shape.rules1) (λ r new. or_false _) (λ r new. or_false _) (λ r new. or_false _))
+    (since_first (λ n. IsAimed (shape.schema_at n) shape.rules1) (λ r new. or_false _) (λ r new. or_false _) (λ r new. or_false _))

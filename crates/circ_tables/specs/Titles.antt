@@ -10,10 +10,12 @@ use Rattle.terms.specs.Limits.{IsTitle}
 use Rattle.terms.specs.Pictures.{put}
 use Rattle.terms.specs.declared.row.TitleRow.{TitleRow}
 use Rattle.circ_tables.specs.Cells.{number_key, title_cells}
-use Rattle.circ_tables.specs.Encoding.{IsEncoded, Any, all_held, to_list, from_list, with_held}
+use Rattle.circ_tables.specs.Encoding.{IsEncoded, Any}
+use Rattle.circ_tables.specs.TableMaps.{all_held, to_list, from_list, with_held}
 use Rattle.circ_tables.specs.Numbered.{IsNumbered, IsNumberTable, grown, in_each, put_terms, put_shows, nat_of, text_of}
 use Rattle.circ_tables.specs.Reading.{Table}
 use Rattle.circ_tables.specs.Shape as shape
+use Rattle.circ_tables.specs.TableSchemas.{has_first}
 
 abbrev pub titles : Table ℕ TitleRow
 titles = record {
@@ -45,7 +47,7 @@ texts_are more others = record {
 
 pub titles_are : IsNumberTable titles (λ r. r.title)
 titles_are = record {
-  newest = shape.has_first;
+  newest = has_first;
   texts = in_each shape.titles_place shape.titles texts_are;
   keyed = λ k. refl;
   first_cell = λ r. refl;

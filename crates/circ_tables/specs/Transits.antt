@@ -11,10 +11,12 @@ use Rattle.terms.specs.Limits.{IsTransit}
 use Rattle.terms.specs.Pictures.{put}
 use Rattle.terms.specs.declared.row.TransitRow.{TransitRow}
 use Rattle.circ_tables.specs.Cells.{number_key, transit_cells}
-use Rattle.circ_tables.specs.Encoding.{IsEncoded, Any, all_held, to_list, from_list, with_held}
+use Rattle.circ_tables.specs.Encoding.{IsEncoded, Any}
+use Rattle.circ_tables.specs.TableMaps.{all_held, to_list, from_list, with_held}
 use Rattle.circ_tables.specs.Numbered.{IsNumbered, IsNumberTable, grown, in_each, put_terms, put_shows, nat_of, option_of, option_back, optional_suits}
 use Rattle.circ_tables.specs.Reading.{Table}
 use Rattle.circ_tables.specs.Shape as shape
+use Rattle.circ_tables.specs.TableSchemas.{has_first}
 
 abbrev pub transits : Table ℕ TransitRow
 transits = record {
@@ -46,7 +48,7 @@ texts_are more others = record {
 
 pub transits_are : IsNumberTable transits (λ r. r.copy)
 transits_are = record {
-  newest = shape.has_first;
+  newest = has_first;
   texts = in_each shape.transits_place shape.transits texts_are;
   keyed = λ k. refl;
   first_cell = λ r. refl;

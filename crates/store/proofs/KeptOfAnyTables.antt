@@ -22,7 +22,8 @@ use Rattle.terms.specs.declared.row.KeptRow.{KeptRow}
 use Rattle.circ_tables.specs.Cells.{number, owner_number, kept_cells}
 use Rattle.circ_tables.specs.Kept.{kept, kept_are}
 use Rattle.circ_tables.specs.Selections.{is_any, is_after, is_kept_after}
-use Rattle.circ_tables.specs.Shape.{schema, has_first}
+use Rattle.circ_tables.specs.Shape.{schema}
+use Rattle.circ_tables.specs.TableSchemas.{has_first}
 use Rattle.terms.specs.declared.limits.TheConstants.{SCHEMA}
 use Rattle.circ_tables.specs.declared.by_number.TheConstants.{BATCH_ROWS}
 use Rattle.circ_tables.proofs.CellLemmas.{same_if, from_alone, alone, above_from}

@@ -35,7 +35,8 @@ use Rattle.circ_tables.specs.Rules.{rules}
 use Rattle.circ_tables.specs.RulesOfSchema1.{rules1}
 use Rattle.circ_tables.specs.SchemaNumber.{NamesSchema}
 use Rattle.circ_tables.specs.Selections.{is_any}
-use Rattle.circ_tables.specs.Shape.{HasTable, has_third, schema_at, meta, meta_place, rules1_place, loans1_place, holds1_place, holds_place}
+use Rattle.circ_tables.specs.Shape.{HasTable, schema_at, meta, meta_place, rules1_place, loans1_place, holds1_place, holds_place}
+use Rattle.circ_tables.specs.TableSchemas.{has_third}
 use Rattle.circ_tables.specs.Shape.{rules_place, loans_place}
 use Rattle.circ_tables.proofs.TableLemmas.{rules1_within}
 use Rattle.store.specs.Legal.{HasLegal}

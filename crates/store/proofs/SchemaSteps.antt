@@ -20,7 +20,8 @@ use Rattle.terms.specs.declared.limits.TheConstants.{SCHEMA}
 use Rattle.circ_tables.specs.Encoding.{HasPictureAt}
 use Rattle.circ_tables.specs.Numbered.{grown}
 use Rattle.circ_tables.specs.SchemaNumber.{NamesSchema, TellsSchemaInside}
-use Rattle.circ_tables.specs.Shape.{schema_at, since_first}
+use Rattle.circ_tables.specs.Shape.{schema_at}
+use Rattle.circ_tables.specs.TableSchemas.{since_first}
 use Rattle.circ_tables.proofs.InverseLemmas.{schema_told}
 use Rattle.store.specs.Library.{HasTablesAt}
 use Rattle.store.specs.Migrating.{IsLibrary, IsAtSomeSchema, AreThere, AreLedOn, AreLedUp, MigratesFrom, MigratesOn, MigratesOnInside, MakesOneStep}

@@ -1,6 +1,6 @@
 use Rattle.sql_maps.specs.Maps.{ListedBy, PairBelow}
 use Rattle.circ_tables.specs.ClosedDays.{closed_days, closed_days_are}
-use Rattle.circ_tables.specs.Shape.{has_first}
+use Rattle.circ_tables.specs.TableSchemas.{has_first}
 use Rattle.terms.specs.declared.limits.TheConstants.{SCHEMA}
 use Rattle.circ_tables.specs.Selections.{is_any}
 use Rattle.circ_tables.proofs.PairedLemmas.{all_plain, pair_listed}

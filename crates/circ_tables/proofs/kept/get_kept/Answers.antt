@@ -4,7 +4,7 @@ use Rattle.circ_tables.specs.Cells.{number, owner_number}
 use Rattle.circ_tables.proofs.ColumnLemmas.{row_of_four}
 use Rattle.circ_tables.proofs.PairedLemmas.{get_plain, pair_gets, pair_keyed}
 use Rattle.circ_tables.specs.Kept.{kept_are}
-use Rattle.circ_tables.specs.Shape.{has_first}
+use Rattle.circ_tables.specs.TableSchemas.{has_first}
 use Rattle.terms.specs.declared.limits.TheConstants.{SCHEMA}
 use Rattle.sqlite.specs.declared.types.Value.TheVariants.{Text}
 use Rattle.circ_tables.proofs.SingleLemmas.{kept_of}

@@ -1,6 +1,6 @@
 use Rattle.sql_maps.specs.Maps.{ListedBy, PairBelow}
 use Rattle.circ_tables.specs.Rules.{rules, rules_are}
-use Rattle.circ_tables.specs.Shape.{has_third}
+use Rattle.circ_tables.specs.TableSchemas.{has_third}
 use Rattle.terms.specs.declared.limits.TheConstants.{SCHEMA}
 use Rattle.circ_tables.specs.Selections.{is_any}
 use Rattle.circ_tables.proofs.PairedLemmas.{all_plain, pair_listed}

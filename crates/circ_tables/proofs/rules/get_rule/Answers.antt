@@ -2,7 +2,7 @@ use Rattle.std.proofs.Common.{refl}
 use Rattle.circ_tables.specs.Cells.{number}
 use Rattle.circ_tables.specs.Encoding.{Pair}
 use Rattle.circ_tables.specs.Rules.{rules, rules_are}
-use Rattle.circ_tables.specs.Shape.{has_third}
+use Rattle.circ_tables.specs.TableSchemas.{has_third}
 use Rattle.terms.specs.declared.limits.TheConstants.{SCHEMA}
 use Rattle.circ_tables.proofs.InverseLemmas.{rule_told}
 use Rattle.circ_tables.proofs.PairedLemmas.{get_plain, pair_gets}

@@ -1,5 +1,5 @@
 use Rattle.std.proofs.Common.{arith}
-use Rattle.circ_tables.specs.Shape.{has_third}
+use Rattle.circ_tables.specs.TableSchemas.{has_third}
 use Rattle.store.proofs.ChangeSteps.{changes_then, changes_failed}
 use Rattle.store.proofs.migrating.LoanRow1Carried.carry.Goals as goal
 
