@@ -56,6 +56,7 @@ pub read_of : {A S : Type 0} (r : Result A Fault) (g : Ghosts S) (old new : Held
     → (HasCleanDisk (state g new) → (P : Picture) → HasPicture (state g old).now P → InLimits P → r ≡ Err Stored → ⊥)
     → Reading (result_err r) (state g old) (state g new)
 read_of r g old new looks unchanged sound = record {
+  ready = survives_weaker (state g old) (state g new) _ _ (λ _ _ _. tt) looks.survives;
   clean = looks.clean;
   mode = looks.mode;
   leaves = λ h is maps holds. elim (looks.leaves h holds.schema_is) [ inl kept ↦ inl kept.now | inr undone ↦ inr (undone.was_open is, (undone.undone is).0) ];

@@ -67,9 +67,15 @@ pub record IsSame (old new : State) : Type 0 where
 abbrev pub IsSameOrUndone : State → State → Type 0
 IsSameOrUndone old new = (new.now ≡ old.now) ⊎ (IsTrue old.is_open × (new.now ≡ old.committed))
 
+-- What a database keeps beside its tables: its limit of steps is as it was, it stays open unless the disk
+-- failed or refused a call, and no such failure is forgotten.
+abbrev pub StaysReady : State → State → Type 0
+StaysReady old new = Survives old new (λ _. Unit {0})
+
 -- What successive reads leave, whether they succeeded or ended in this fault, which isn't that of a stored
 -- row if the tables show a picture.
 pub record Reading (fault : Option Fault) (old new : State) : Type 0 where
+  pub ready : StaysReady old new
   pub clean : HasCleanDisk new → HasCleanDisk old
   pub mode : old.in_transaction ≡ false → new.in_transaction ≡ false
   pub leaves : HasCleanDisk new → IsTrue new.is_open → (maps : Maps) → Holds schema old.now maps → IsSameOrUndone old new

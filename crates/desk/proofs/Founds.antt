@@ -4,6 +4,7 @@ use Rattle.std.specs.Prelude.{Result, Ok, Err, OnOk}
 use Rattle.std.specs.Result.{IsErr, IsErrAnd}
 use Rattle.store.specs.Library.{Ghosts, Held, State, state, HasCleanDisk, HasTables}
 use Rattle.store.specs.Reads.{Reads, Looked}
+use Rattle.store.proofs.ReadLemmas.{ready_same, ready_then}
 use Rattle.circ_tables.specs.Encoding.{HasPicture}
 use Rattle.terms.specs.Limits.{InLimits}
 use Rattle.terms.specs.Pictures.{Picture}
@@ -18,6 +19,7 @@ Found Is = Looked InLimits Is InLimits
 -- A read that was answered, and then another.
 reads-then : {A B : Type 0} (a b c : State) (x : A) (r : Result B Fault) → Reads {A = A} a b (Ok x) → Reads b c r → Reads a c r
 reads-then a b c x r one two = record {
+  ready = ready_then a b c one.ready two.ready;
   clean = λ disk. one.clean (two.clean disk);
   answered = λ disk tables. on-ok r (λ same. same ∙ one.answered (two.clean disk) tables) (two.answered disk (kept disk tables));
   same = λ disk is_open tables. two.same disk is_open (kept disk tables) ∙ one.answered (two.clean disk) tables;
@@ -30,6 +32,7 @@ reads-then a b c x r one two = record {
 -- Whatever is made of an answer.
 reads-as : {A B : Type 0} (a b : State) (x : A) (r : Result B Fault) → Reads {A = A} a b (Ok x) → Reads a b r
 reads-as {B = B} a b x r one = record {
+  ready = one.ready;
   clean = one.clean;
   answered = λ disk tables. given r (one.answered disk tables);
   same = λ disk is_open tables. one.answered disk tables;
@@ -43,8 +46,14 @@ reads-as {B = B} a b x r one = record {
 -- Nothing was asked yet.
 pub found-nothing : {S : Type 0} {g : Ghosts S} {a : Held S} {Is : Picture → Unit {0} → Type 0} → ((P : Picture) → InLimits P → Is P tt)
     → Found Is g a a (Ok tt)
-found-nothing is = record {
-  reads = record { clean = λ disk. disk; answered = λ disk tables. refl; same = λ disk is_open tables. refl; left = λ disk tables trees may. may };
+found-nothing {g = g} {a = a} is = record {
+  reads = record {
+    ready = ready_same (state g a);
+    clean = λ disk. disk;
+    answered = λ disk tables. refl;
+    same = λ disk is_open tables. refl;
+    left = λ disk tables trees may. may;
+  };
   shown = λ disk P shown legal. (is P legal, refl);
   sound = λ disk e. let never : ⊥ = cc in absurd never;
 }
@@ -95,7 +104,13 @@ module _ {S A : Type 0} {g : Ghosts S} {a b : Held S} {Is : Picture → A → Ty
     found-fault {C} {fault = fault} (Err e) is second =
         let same : e ≡ fault = is.1 in
         let again : Reads {A = C} (state g b) (state g c) (Err e) =
-        record { clean = second.reads.clean; answered = λ disk tables. tt; same = second.reads.same; left = second.reads.left } in
+        record {
+          ready = second.reads.ready;
+          clean = second.reads.clean;
+          answered = λ disk tables. tt;
+          same = second.reads.same;
+          left = second.reads.left;
+        } in
         record {
           reads = reads-then (state g a) (state g b) (state g c) x (Err e) first.reads again;
           shown = λ disk. tt;

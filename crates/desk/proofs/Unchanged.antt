@@ -1,5 +1,5 @@
 -- Calls that change nothing, whatever rows the tables have.
-use Rattle.std.proofs.Common.{◌≡◌, inl, inr, refl, sym, ◌∙◌, ap, subst}
+use Rattle.std.proofs.Common.{◌≡◌, ℕ, List, inl, inr, refl, sym, ◌∙◌, ap, subst}
 use Rattle.std.specs.Prelude.{Result, Ok, Err, OnErr, IfOk}
 use Rattle.std.specs.Result.{IsErr, IsErrAnd}
 use Rattle.sqlite.specs.Effect.{Database}
@@ -8,6 +8,7 @@ use Rattle.store.specs.Reads.{Reads}
 use Rattle.store.specs.Stops.{Leaves, KeepsPicture}
 use Rattle.circ_tables.specs.Encoding.{HasPicture}
 use Rattle.terms.specs.Pictures.{Picture}
+use Rattle.terms.specs.declared.command.Owner.{Owner}
 use Rattle.terms.specs.declared.fault.Fault.{Fault}
 use Rattle.terms.specs.declared.refusal.Refusal.{Refusal}
 use Rattle.terms.specs.declared.reply.Reply.{Reply}
@@ -52,19 +53,25 @@ stays-as a b same H shows = record { legal = shows.legal; forms = shows.forms; t
 -- A read of the store.
 pub nothing-read : {A : Type 0} (a b : State) (r : Result A Fault) → Reads a b r → ChangesNothing a b r
 nothing-read a b r reads = record {
+  ready = reads.ready;
   answered = λ disk tables. on-ok r (λ same. record { now = same; left = λ trees may. inl (reads.left disk tables trees may) }) (reads.answered disk tables);
   failed = λ disk is_open tables. on-err-any r (record { now = reads.same disk is_open tables; left = λ trees may. inl (reads.left disk tables trees may) });
 }
 
 -- Nothing was asked.
 pub nothing-asked : {T E : Type 0} (s : State) (r : Result T E) → ChangesNothing s s r
-nothing-asked s r = record { answered = λ disk tables. on-ok-any r (as-it-was s); failed = λ disk is_open tables. on-err-any r (as-it-was s) }
+nothing-asked s r = record {
+  ready = ready_same s;
+  answered = λ disk tables. on-ok-any r (as-it-was s);
+  failed = λ disk is_open tables. on-err-any r (as-it-was s);
+}
 
 -- One call after another that was answered.
 pub nothing-then : {T U E F : Type 0} (a b c : State) (x : T) (r : Result U F) → (HasCleanDisk c → HasCleanDisk b)
     → ChangesNothing {T = T} {E = E} a b (Ok x) → ChangesNothing {T = U} {E = F} b c r
     → ChangesNothing {T = U} {E = F} a c r
 nothing-then a b c x r clean first next = record {
+  ready = ready_then a b c first.ready next.ready;
   answered = λ disk tables. let one = first.answered (clean disk) tables in on-ok r (as-then a b c one) (next.answered disk (tables-as a b one tables));
   failed = λ disk is_open tables. let one = first.answered (clean disk) tables in
       on-err r (as-then a b c one) (next.failed disk is_open (tables-as a b one tables));
@@ -73,6 +80,7 @@ nothing-then a b c x r clean first next = record {
 -- Whatever is made of an answer.
 pub nothing-as : {T U E F : Type 0} (a b : State) (x : T) (r : Result U F) → ChangesNothing {T = T} {E = E} a b (Ok x) → ChangesNothing {T = U} {E = F} a b r
 nothing-as a b x r first = record {
+  ready = first.ready;
   answered = λ disk tables. on-ok-any r (first.answered disk tables);
   failed = λ disk is_open tables. on-err-any r (first.answered disk tables);
 }
@@ -87,6 +95,7 @@ module _ {S : Type 0} (g : Ghosts S) where
   -- A request that changed nothing.
   pub any-nothing : (a b : Held S) (r : Result Reply Fault) → ChangesNothing (state g a) (state g b) r → HandlesAny g a b r
   any-nothing a b r nothing = record {
+    ready = nothing.ready;
     tables = λ disk tables. on-ok r (λ same. tables-as (state g a) (state g b) same tables) (nothing.answered disk tables);
     refused = λ disk tables. if-ok-any r (λ same reply refusal is. same) (nothing.answered disk tables);
     failed = nothing.failed;
@@ -97,6 +106,7 @@ module _ {S : Type 0} (g : Ghosts S) where
       → ChangesNothing {T = T} {E = E} (state g a) (state g b) (Ok x) → HandlesAny g b c r
       → HandlesAny g a c r
   any-after a b c x r clean first next = record {
+    ready = ready_then (state g a) (state g b) (state g c) first.ready next.ready;
     tables = λ disk tables. next.tables disk (tables-as (state g a) (state g b) (first.answered (clean disk) tables) tables);
     refused = λ disk tables.
         let one = first.answered (clean disk) tables in
@@ -120,9 +130,10 @@ module _ {S : Type 0} (g : Ghosts S) where
 
   -- A fault after which nothing is changed.
   pub any-failed : (a b : Held S) (fault : Fault) (r : Result Reply Fault) → IsErr r × IsErrAnd r (λ e. e ≡ fault)
-      → (IsClean g b → IsOpen g b → IsAsItWas (state g a) (state g b)) → HandlesAny g a b r
-  any-failed a b fault (Ok reply) is same = let never : ⊥ = cc (is.0) in absurd never
-  any-failed a b fault (Err e) is same = record { tables = λ disk tables. tt; refused = λ disk tables. tt; failed = λ disk is_open tables. same disk is_open }
+      → StaysReady (state g a) (state g b) → (IsClean g b → IsOpen g b → IsAsItWas (state g a) (state g b)) → HandlesAny g a b r
+  any-failed a b fault (Ok reply) is ready same = let never : ⊥ = cc (is.0) in absurd never
+  any-failed a b fault (Err e) is ready same =
+      record { ready = ready; tables = λ disk tables. tt; refused = λ disk tables. tt; failed = λ disk is_open tables. same disk is_open }
 
   -- After a fault a history is shown still.
   pub any-undone : (a b : Held S) (r : Result Reply Fault) → HandlesAny g a b r → IsClean g b → IsOpen g b → OnErr r (Stays (state g a) (state g b))

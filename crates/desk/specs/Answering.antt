@@ -51,6 +51,8 @@ LeavesOneOf s H K = LeavesEither s (picture H) (picture K)
 -- Nothing changes, whatever rows the tables have: neither after an answer nor, if the database is still open,
 -- after an error.
 pub record ChangesNothing {T E : Type 0} (old new : State) (result : Result T E) : Type 0 where
+  -- the step limit is as it was, and only a failure of the disk shuts the database
+  pub ready : StaysReady old new
   pub answered : HasCleanDisk new → HasTables old.now → OnOk result (IsAsItWas old new)
   pub failed : HasCleanDisk new → IsTrue new.is_open → HasTables old.now
       → OnErr result (IsAsItWas old new)
@@ -138,6 +140,8 @@ Undoes g old new result = IsClean g new → IsOpen g new
 -- What a request does to tables with any rows, even damaged ones.
 pub record HandlesAny {S : Type 0} (g : Ghosts S) (old new : Held S) (result : Result Reply Fault)
     : Type 0 where
+  -- the step limit is as it was, and only a failure of the disk shuts the database
+  pub ready : StaysReady (state g old) (state g new)
   -- the tables still exist
   pub tables : IsClean g new → HasTables (state g old).now → OnOk result (HasTables (state g new).now)
   -- a refused request changes nothing
@@ -151,6 +155,8 @@ pub record HandlesAny {S : Type 0} (g : Ghosts S) (old new : Held S) (result : R
 -- after it.
 pub record Records {S A : Type 0} (owner : Owner) (made : Picture → Picture)
     (g : Ghosts S) (old new : Held S) (result : Result A Fault) : Type 0 where
+  -- the step limit is as it was, and only a failure of the disk shuts the database
+  pub ready : StaysReady (state g old) (state g new)
   pub clean : IsClean g new → IsClean g old
   -- fault 93 never occurs
   pub sound : result ≡ Err Stored → ⊥

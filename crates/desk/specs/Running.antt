@@ -1,7 +1,7 @@
 -- What a new desk shows, and what it shows after many requests.
 use Rattle.std.specs.Prelude.{◌≡◌, ◌≤◌, ◌+◌, ◌-◌, ◌==◌, ℕ, false, List, [], ◌∷◌, length, take, Vec, vec_len, Result, Ok, Err, IfOk, IfErr}
 use Rattle.std.specs.List.{list_any}
-use Rattle.store.specs.Library.{Ghosts, Held, state, IsClean, IsOpen, HasTables, IsAsItWas, StaysOpen}
+use Rattle.store.specs.Library.{Ghosts, Held, state, IsClean, IsOpen, HasTables, IsAsItWas, StaysReady}
 use Rattle.store.specs.Commit.{empty_library}
 use Rattle.store.specs.Schemas.{IsKnown}
 use Rattle.store.specs.Stops.{KeepsPicture, LeavesPicture}
@@ -24,6 +24,7 @@ use Rattle.desk.specs.Touching.{IsAmong, IsTouched}
 pub record RefusesTables {S : Type 0} (g : Ghosts S) (store : Held S) : Type 0 where
   -- the store when it was dropped
   pub last : Held S
+  pub ready : StaysReady (state g store) (state g last)
   pub clean : IsClean g last → IsClean g store
   pub nothing : IsClean g last → IsOpen g last → IsAsItWas (state g store) (state g last)
   pub none : IsClean g last → (H : History) → ¬ Shows (state g store) H
@@ -46,8 +47,8 @@ pub record Begins {S : Type 0}
       → HasPictureAt n (state g store).now P → P.meta.schema ≡ SCHEMA)
   -- nor a fault of a stored row for tables that show a list of accepted requests
   pub made : IfErr result (λ fault. fault ≡ Stored → RefusesTables g store)
-  -- the database stays open, unless the disk failed
-  pub closes : IfOk result (λ desk. StaysOpen (state g store) (state g desk))
+  -- the step limit is as it was, and only a failure of the disk shuts the database
+  pub ready : IfOk result (λ desk. StaysReady (state g store) (state g desk))
 
 -- The tables show the headline of the list of accepted requests.
 abbrev pub ShowsHeadline : {S : Type 0} → Ghosts S → Held S → History → Type 0
@@ -114,6 +115,8 @@ pub record Ran {S Z : Type 0} (requests : List Request)
   pub many : IfOk result (λ replies. vec_len replies ≡ length requests)
   -- before a fault there are fewer: the request that met it has none
   pub few : IfErr result (λ end. vec_len end.0 ≤ length requests - 1)
+  -- the step limit is as it was, and only a failure of the disk shuts the database
+  pub ready : StaysReady (state g old) (state g new)
   pub clean : IsClean g new → IsClean g old
   -- the replies are those that the list of accepted requests gives, and the tables show the list after the
   -- requests

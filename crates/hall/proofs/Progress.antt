@@ -23,6 +23,7 @@ use Rattle.hall.specs.declared.messages.Message.{Message}
 use Rattle.hall.specs.declared.messages.Message.TheVariants.{Submit}
 use Rattle.hall.specs.Queue.{submissions, handled, unhandled, requests}
 use Rattle.hall.specs.Openings.{LooksOnly, MeetsFaultOf, IsMet}
+use Rattle.store.proofs.ReadLemmas.{ready_same, ready_then}
 use Rattle.hall.specs.Handling.{HandledFirst, HandledAny, LooksAny, TakesNext}
 use Rattle.hall.proofs.HandledLists.{submit_same, submit_more, rest_more, no_rest}
 
@@ -43,18 +44,24 @@ module _ {S : Type 0} (g : Ghosts S) where
   -- ---- tables with any rows
 
   not-asked : (held : Held S) (fault : Option ServiceFault) → LooksAny g held held fault
-  not-asked held fault = record { clean = λ disk. disk; nothing = λ disk is_open tables. as-it-was (state g held) }
+  not-asked held fault = record { ready = ready_same (state g held); clean = λ disk. disk; nothing = λ disk is_open tables. as-it-was (state g held) }
 
   -- a look that answered, and one that met a fault
   looked-any : (a b : Held S) (fault : Option ServiceFault) → LooksOnly g a b (Ok tt) → LooksAny g a b fault
-  looked-any a b fault l = record { clean = l.looks.clean; nothing = λ disk is_open tables. l.looks.nothing.answered disk tables }
+  looked-any a b fault l =
+      record { ready = l.looks.nothing.ready; clean = l.looks.clean; nothing = λ disk is_open tables. l.looks.nothing.answered disk tables }
 
   met-any : (a b : Held S) (fault : Fault) (looked : Result (Unit {0}) Fault) → LooksOnly g a b looked → LooksAny g a b (Some (Met fault))
   met-any a b fault (Ok x) l = looked-any a b (Some (Met fault)) l
-  met-any a b fault (Err e) l = record { clean = l.looks.clean; nothing = λ disk is_open tables. l.looks.nothing.failed disk (is_open refl) tables }
+  met-any a b fault (Err e) l = record {
+    ready = l.looks.nothing.ready;
+    clean = l.looks.clean;
+    nothing = λ disk is_open tables. l.looks.nothing.failed disk (is_open refl) tables;
+  }
 
   look-then : (a b c : Held S) (fault : Option ServiceFault) → LooksAny g a b None → LooksAny g b c fault → LooksAny g a c fault
   look-then a b c fault one two = record {
+    ready = ready_then (state g a) (state g b) (state g c) one.ready two.ready;
     clean = λ disk. one.clean (two.clean disk);
     nothing = λ disk is_open tables.
         let same = one.nothing (two.clean disk) (λ some. let never : ⊥ = cc in absurd never) tables in
@@ -209,7 +216,7 @@ module _ {S : Type 0} (g : Ghosts S) where
         (sym (ap (λ (l : List Request). after H (first ++ take 1 (l ++ request ∷ []))) none ∙ after-last first H request))
         (d.handled.left disk (after H first) (h.shown (d.handled.clean disk) refl H shows));
     any = any-then-look first a b c (Some (Met fault)) h.any
-        (record { clean = d.handled.clean; nothing = λ disk is_open tables. d.handled.any.failed disk (is_open refl) tables });
+        (record { ready = d.handled.any.ready; clean = d.handled.clean; nothing = λ disk is_open tables. d.handled.any.failed disk (is_open refl) tables });
   }
 
   -- what may be there after one more of the rest

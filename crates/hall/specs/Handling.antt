@@ -2,7 +2,7 @@
 use Rattle.std.specs.Prelude.{◌≡◌, ◌⊎◌, ℕ, ◌+◌, ◌^◌, ◌<◌, ◌≤◌, ◌==◌, false, List, [], ◌∷◌, ◌++◌, length, map, take, Option, None, Some}
 use Rattle.std.specs.Prelude.{Result, Ok, Err, IfSome, IsSome}
 use Rattle.std.specs.List.{list_any}
-use Rattle.store.specs.Library.{Ghosts, Held, state, IsClean, IsOpen, HasTables, IsAsItWas}
+use Rattle.store.specs.Library.{Ghosts, Held, state, IsClean, IsOpen, HasTables, IsAsItWas, StaysReady}
 use Rattle.terms.specs.declared.command.Request.{Request}
 use Rattle.terms.specs.declared.fault.Fault.{Fault}
 use Rattle.terms.specs.declared.fault.ServiceFault.{ServiceFault}
@@ -30,6 +30,8 @@ use Rattle.hall.specs.Queue.{AreFrom, of, is_open, submissions, handled, unhandl
 -- The tables were only looked at, whatever rows they have: nothing is changed, after a fault if the database
 -- is still open.
 pub record LooksAny {S : Type 0} (g : Ghosts S) (old new : Held S) (fault : Option ServiceFault) : Type 0 where
+  -- the step limit is as it was, and only a failure of the disk shuts the database
+  pub ready : StaysReady (state g old) (state g new)
   pub clean : IsClean g new → IsClean g old
   pub nothing : IsClean g new → (IsSome fault → IsOpen g new) → HasTables (state g old).now
       → IsAsItWas (state g old) (state g new)

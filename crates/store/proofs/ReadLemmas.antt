@@ -13,10 +13,22 @@ use Rattle.terms.specs.Pictures.{Picture}
 use Rattle.terms.specs.declared.fault.Fault.{Fault}
 use Rattle.terms.specs.declared.fault.Fault.TheVariants.{Stored}
 use Rattle.circ_tables.specs.Encoding.{HasPicture, Encodes}
-use Rattle.circ_tables.specs.Reading.{Table, Gets, Lists, Views, IsSame, IsSameOrUndone, IsSoundIn, Reading}
+use Rattle.circ_tables.specs.Reading.{Table, Gets, Lists, Views, IsSame, IsSameOrUndone, IsSoundIn, Reading, StaysReady}
 use Rattle.circ_tables.specs.Shape.{schema}
 use Rattle.store.specs.Library.{HasTables}
 use Rattle.store.specs.Reads.{Reads, Looked, Finds, IsReadable}
+use Rattle.sqlite.proofs.StateLemmas.{survives_then, survives_weaker}
+use Rattle.store.proofs.ChangeSteps.{same_survives}
+
+-- ---- what a store keeps beside its tables
+
+pub ready_then : (a b c : State) → StaysReady a b → StaysReady b c → StaysReady a c
+ready_then a b c one two = survives_then a b c _ _ _ (λ _ _ _. tt) (λ _ _ _. tt) one two
+
+pub ready_same : (s : State) → StaysReady s s
+ready_same s = survives_weaker s s _ _ (λ _ _ none. tt) (same_survives s)
+
+-- ---- successive reads
 
 same_then : (a b c : State) → IsSame a b → IsSame b c → IsSame a c
 same_then a b c one two = record { now = two.now ∙ one.now; committed = two.committed ∙ one.committed; was_open = λ is. one.was_open (two.was_open is) }
@@ -34,6 +46,7 @@ shown_still a b P one shown = subst (λ d. HasPicture d P) (sym one.now) shown
 -- a read that ended well, and then another
 pub read_then : {fault : Option Fault} (a b c : State) → Reading None a b → Reading fault b c → Reading fault a c
 read_then a b c one two = record {
+  ready = ready_then a b c one.ready two.ready;
   clean = λ h. one.clean (two.clean h);
   mode = λ h. two.mode (one.mode h);
   leaves = λ h is maps holds. let same = one.same refl (two.clean h) maps holds in
@@ -47,6 +60,7 @@ read_then a b c one two = record {
 -- nothing was read
 pub read_none : (a : State) → Reading None a a
 read_none a = record {
+  ready = ready_same a;
   clean = λ h. h;
   mode = λ h. h;
   leaves = λ h is maps holds. inl refl;
@@ -66,6 +80,7 @@ answered_of (Err e) a b one h tables = tt
 
 pub reads_of : {A : Type 0} (r : Result A Fault) (a b : State) → (IsTrue a.is_open → a.now ≡ a.committed) → Reading (result_err r) a b → Reads a b r
 reads_of r a b settled one = record {
+  ready = one.ready;
   clean = one.clean;
   answered = λ h tables. answered_of r a b one h tables;
   same = λ h is tables. elim (one.leaves h is tables.0 tables.1) [ inl kept ↦ kept | inr undone ↦ undone.1 ∙ sym (settled undone.0) ];
@@ -79,7 +94,7 @@ legal_if Good (Some r) own = own r refl
 -- a read that ended well, and then a step that failed
 pub read_fails : {fault : Option Fault} (a b : State) → Reading None a b
     → (fault ≡ Some Stored → HasCleanDisk b → (P : Picture) → HasPicture a.now P → InLimits P → ClosesFewDays P → ⊥) → Reading fault a b
-read_fails a b one sound = record { clean = one.clean; mode = one.mode; leaves = one.leaves; crash = one.crash; same = λ _. one.same refl; sound = sound }
+read_fails a b one sound = record { ready = one.ready; clean = one.clean; mode = one.mode; leaves = one.leaves; crash = one.crash; same = λ _. one.same refl; sound = sound }
 
 -- a fault that is handed on
 pub read_err : {A : Type 0} (r : Result A Fault) (fault : Fault) (a b : State) → IsErr r × IsErrAnd r (λ e. e ≡ fault)

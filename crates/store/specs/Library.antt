@@ -1,6 +1,5 @@
 -- The words for a library that higher crates use.
 use Rattle.std.specs.Prelude.{◌≡◌, ◌⊎◌, ℕ, IsTrue}
-use Rattle.sqlite_disk.specs.Disk.{MoreFaults}
 use Rattle.sqlite.specs.Effect.{Database}
 use Rattle.sqlite.specs.Tree.{Trees}
 use Rattle.sql_maps.specs.Maps.{Maps, Holds}
@@ -10,6 +9,7 @@ pub use Rattle.sqlite.specs.Held.{Held, held_code, state}
 pub use Rattle.sqlite.specs.State.{State, HasCleanDisk}
 pub use Rattle.sqlite.specs.Store.{Ghosts}
 pub use Rattle.sqlite.specs.Steps.{over_memory}
+pub use Rattle.circ_tables.specs.Reading.{StaysReady}
 
 -- The tables of a schema exist, whatever rows they have.
 abbrev pub HasTablesAt : ℕ → Database → Type 0
@@ -23,10 +23,6 @@ HasTables = HasTablesAt SCHEMA
 pub record IsAsItWas (old new : State) : Type 0 where
   pub now : new.now ≡ old.now
   pub left : (trees : Trees) → new.may_leave trees → old.may_leave trees ⊎ (trees ≡ old.now.trees)
-
--- An open database stays open unless the disk failed or refused a call.
-abbrev pub StaysOpen : State → State → Type 0
-StaysOpen old new = HasCleanDisk new → IsTrue old.is_open → IsTrue new.is_open ⊎ MoreFaults old.faults new.faults
 
 -- So far the disk has returned what was written to it.
 abbrev pub IsClean : {S : Type 0} → Ghosts S → Held S → Type 0

@@ -27,7 +27,7 @@ use Rattle.circ_tables.specs.Rules.{rules}
 use Rattle.store.specs.Carrying.{AreCarried, MigratesInside}
 use Rattle.store.specs.Commit.{Brings, HasDone}
 use Rattle.store.specs.Legal.{HasLegal}
-use Rattle.store.specs.Library.{IsAsItWas, StaysOpen}
+use Rattle.store.specs.Library.{IsAsItWas, StaysReady}
 use Rattle.store.specs.Schemas.{IsKnown, IsOlder, next_schema}
 use Rattle.store.specs.Stops.{Leaves, KeepsPicture, KeepsPictureAt}
 use Rattle.store.specs.Transfers.{holds_transfer, loans_transfer, rules_transfer}
@@ -137,7 +137,7 @@ pub record TellsSchema {S : Type 0} (g : Ghosts S) (old new : Held S) (result : 
   pub now : HasCleanDisk (state g new) → IsTrue (state g new).is_open → (state g new).now ≡ (state g old).now
   pub committed : HasCleanDisk (state g new) → IsTrue (state g new).is_open → (state g new).committed ≡ (state g old).now
   pub left : HasCleanDisk (state g new) → (trees : Trees) → (state g new).may_leave trees → (state g old).may_leave trees
-  pub closes : StaysOpen (state g old) (state g new)
+  pub ready : StaysReady (state g old) (state g new)
   pub told : HasCleanDisk (state g new) → IfOk result (λ named. (n : ℕ) → IsKnown n → (P : Picture)
       → HasPictureAt n (state g old).now P → P.meta.schema ≡ named)
   pub sound : HasCleanDisk (state g new) → result ≡ Err Stored → (n : ℕ) → IsKnown n → (P : Picture)

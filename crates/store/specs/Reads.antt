@@ -10,10 +10,12 @@ use Rattle.terms.specs.declared.fault.Fault.{Fault}
 use Rattle.terms.specs.declared.fault.Fault.TheVariants.{Stored}
 use Rattle.circ_tables.specs.Encoding.{HasPicture}
 use Rattle.circ_tables.specs.Reading.{Table}
-use Rattle.store.specs.Library.{HasTables}
+use Rattle.store.specs.Library.{HasTables, StaysReady}
 
 -- A call that only reads, whatever rows the tables have.
 pub record Reads {A : Type 0} (old new : State) (result : Result A Fault) : Type 0 where
+  -- the step limit is as it was, and only a failure of the disk shuts the database
+  pub ready : StaysReady old new
   pub clean : HasCleanDisk new → HasCleanDisk old
   -- after an answer the database holds what it held
   pub answered : HasCleanDisk new → HasTables old.now → OnOk result (new.now ≡ old.now)

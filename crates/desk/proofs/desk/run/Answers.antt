@@ -11,12 +11,14 @@ use Rattle.desk.proofs.Afterwards.{after-last, replies-last}
 use Rattle.desk.proofs.Shown.{shows-headline}
 use Rattle.desk.proofs.Chains.{handled-last, handled-none}
 use Rattle.desk.proofs.Unchanged.{as-it-was}
+use Rattle.store.proofs.ReadLemmas.{ready_same, ready_then}
 use Rattle.desk.proofs.desk.run.Goals as goal
 
 pub returns-in_default : goal.returns-in_default
 returns-in_default g c = record {
   many = search rules;
   few = search rules;
+  ready = ready_same (state g.S.Store c.args.store.now);
   clean = search rules;
   ran = search rules;
   headline = search rules;
@@ -35,6 +37,8 @@ pub returns-in-Err : goal.returns-in-Err
 returns-in-Err g c = record {
   many = search rules;
   few = search rules;
+  ready = ready_then (state g.S.Store c.args.store.now) (state g.S.Store c.requests.store) (state g.S.Store c.handle.new.store)
+      c.requests.invariant.ready c.handle.ensures.handled.any.ready;
   clean = search rules;
   ran = search rules;
   headline = search rules;
@@ -73,6 +77,7 @@ returns g c =
     record {
       many = search rules;
       few = search rules;
+      ready = c.requests.invariant.ready;
       clean = search rules;
       ran = λ disk H shows. rw whole at (c.requests.invariant.so_far disk H shows);
       headline = λ disk H shows.
@@ -90,6 +95,8 @@ requests-preserved g c = record {
       let pushed : is_ok c.push.result ≡ true = sym c.is_ok-pushed.ensures.value ∙ c.if-prove.false in
       let len = rw pushed at c.push.ensures.len in
       len ∙ ap (λ n. n + 1) c.requests.invariant.count;
+  ready = ready_then (state g.S.Store c.args.store.now) (state g.S.Store c.requests.store) (state g.S.Store c.handle.new.store)
+      c.requests.invariant.ready c.handle.ensures.handled.any.ready;
   clean = λ disk. c.requests.invariant.clean (c.handle.ensures.handled.clean disk);
   tables = λ disk tables. c.in-Ok-handle.ensures.handled.any.tables disk (c.requests.invariant.tables (c.handle.ensures.handled.clean disk) tables);
   chain =

@@ -6,6 +6,7 @@ use Rattle.desk.proofs.handling.record.Goals as goal
 
 pub returns : goal.returns
 returns g c = record {
+  ready = c.commit.ensures.ready;
   clean = c.commit.ensures.clean;
   sound = search rules;
   done = c.commit.ensures.shown;

@@ -1,5 +1,6 @@
 use Rattle.std.proofs.Common.{◌≡◌, ◌∙◌, inl, inr, IsTrue, sym, arith, rules}
 use Rattle.sqlite.specs.Held.{state}
+use Rattle.sqlite.proofs.StateLemmas.{survives_weaker}
 use Rattle.circ_tables.specs.SchemaNumber.{NamesSchema}
 use Rattle.circ_tables.proofs.InverseLemmas.{schema_told}
 use Rattle.store.proofs.OpenLemmas.{of_known}
@@ -18,7 +19,7 @@ returns g c =
       now = λ clean is. let same = undone.same clean is in same.1 ∙ sym (settled same.0);
       committed = λ clean is. let same = undone.same clean is in same.2 ∙ sym (settled same.0);
       left = λ clean trees may. elim (undone.survives.crash clean trees may) [ inl before ↦ before | inr none ↦ absurd none ];
-      closes = undone.survives.closes;
+      ready = survives_weaker old (state g.S.Store c.schema_of.new.conn) _ _ (λ _ _ _. tt) undone.survives;
       told = λ clean. if_ok c.schema_of.result
           (λ named names n known P shown. schema_told shown.maps P named shown.encodes
           (of_known (λ maps. NamesSchema maps named) old.now names n known shown.maps shown.holds)) (c.schema_of.ensures.named clean);

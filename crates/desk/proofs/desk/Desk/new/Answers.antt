@@ -23,13 +23,14 @@ returns-in_err-schema g c =
       older = tt;
       made = λ stored. record {
         last = c.schema.new.self;
+        ready = c.schema.ensures.ready;
         clean = c.schema.ensures.clean;
         nothing = λ clean is. record { now = c.schema.ensures.now clean is; left = λ trees may. inl (c.schema.ensures.left clean trees may) };
         none = λ clean H shows.
             let same : c.schema.result ≡ Err Stored = search rules in
             c.schema.ensures.sound clean same SCHEMA newest (picture H) shows.tables.now (omega arith);
       };
-      closes = tt;
+      ready = tt;
     })
 
 pub returns-then-branch-ne-SCHEMA : goal.returns-then-branch-ne-SCHEMA
@@ -41,11 +42,12 @@ returns-then-branch-ne-SCHEMA g c = record {
   older = tt;
   made = λ stored. record {
     last = c.schema.new.self;
+    ready = c.in_ok-schema.ensures.ready;
     clean = c.in_ok-schema.ensures.clean;
     nothing = λ clean is. record { now = c.in_ok-schema.ensures.now clean is; left = λ trees may. inl (c.in_ok-schema.ensures.left clean trees may) };
     none = λ clean H shows. c.if-branch-ne-SCHEMA.true (sym (c.in_ok-schema.ensures.told clean SCHEMA newest (picture H) shows.tables.now));
   };
-  closes = tt;
+  ready = tt;
 }
 
 pub returns : goal.returns
@@ -62,5 +64,5 @@ returns g c =
       begins = λ clean is it. record { legal = search rules; forms = search rules; tables = keeps-as old new (picture []) (nothing clean is) it };
       older = λ clean n known P shown. told.told clean n known P shown ∙ c.if-branch-ne-SCHEMA.false;
       made = tt;
-      closes = told.closes;
+      ready = told.ready;
     }
