@@ -3,8 +3,9 @@ use Rattle.std.proofs.Common.{◌≡◌, ℕ, List, inl, inr, refl, sym, ◌∙�
 use Rattle.std.specs.Prelude.{Result, Ok, Err, OnErr, IfOk}
 use Rattle.std.specs.Result.{IsErr, IsErrAnd}
 use Rattle.sqlite.specs.Effect.{Database}
-use Rattle.store.specs.Library.{Ghosts, Held, State, state, HasCleanDisk, HasTables, IsAsItWas, IsClean, IsOpen}
-use Rattle.store.specs.Reads.{Reads}
+use Rattle.store.specs.Library.{Ghosts, Held, State, state, HasCleanDisk, HasTables, IsAsItWas, IsClean, IsOpen, StaysReady}
+use Rattle.store.specs.Reads.{Reads, IsUsed}
+use Rattle.store.proofs.ReadLemmas.{ready_same, ready_then}
 use Rattle.store.specs.Stops.{Leaves, KeepsPicture}
 use Rattle.circ_tables.specs.Encoding.{HasPicture}
 use Rattle.terms.specs.Pictures.{Picture}
@@ -87,7 +88,27 @@ nothing-as a b x r first = record {
 
 -- A fault is an error of whatever was asked.
 pub nothing-failed : {T U E F : Type 0} (a b : State) (e : E) (f : F) → ChangesNothing {T = T} {E = E} a b (Err e) → ChangesNothing {T = U} {E = F} a b (Err f)
-nothing-failed a b e f first = record { answered = λ disk tables. tt; failed = first.failed }
+nothing-failed a b e f first = record { ready = first.ready; answered = λ disk tables. tt; failed = first.failed }
+
+pub nothing-fault : {T U : Type 0} (a b : State) (fault : Fault) (r : Result U Fault) → IsErr r × IsErrAnd r (λ e. e ≡ fault)
+    → ChangesNothing {T = T} {E = Fault} a b (Err fault) → ChangesNothing a b r
+nothing-fault a b fault (Ok x) is first = let never : ⊥ = cc (is.0) in absurd never
+nothing-fault a b fault (Err e) is first = nothing-failed a b fault e first
+
+-- One call after another that was answered, where the second changes nothing of tables that are as they were.
+pub nothing-after : {T U E F : Type 0} (a b c : State) (x : T) (r : Result U F) → (HasCleanDisk c → HasCleanDisk b)
+    → ChangesNothing {T = T} {E = E} a b (Ok x) → StaysReady b c
+    → (IsAsItWas a b → ChangesNothing {T = U} {E = F} b c r) → ChangesNothing {T = U} {E = F} a c r
+nothing-after a b c x r clean first ready next = record {
+  ready = ready_then a b c first.ready ready;
+  answered = λ disk tables. let one = first.answered (clean disk) tables in
+      on-ok r (as-then a b c one) ((next one).answered disk (tables-as a b one tables));
+  failed = λ disk is_open tables. let one = first.answered (clean disk) tables in
+      on-err r (as-then a b c one) ((next one).failed disk is_open (tables-as a b one tables));
+}
+
+pub used-as : (owner : Owner) (key : List ℕ) (a b : State) → IsAsItWas a b → IsUsed owner key a.now → IsUsed owner key b.now
+used-as owner key a b same used = subst (IsUsed owner key) (sym same.now) used
 
 -- ---- requests, over any rows
 
@@ -125,8 +146,7 @@ module _ {S : Type 0} (g : Ghosts S) where
   pub any-fault : {T : Type 0} (a b : Held S) (fault : Fault) (r : Result Reply Fault) → IsErr r × IsErrAnd r (λ e. e ≡ fault)
       → ChangesNothing {T = T} {E = Fault} (state g a) (state g b) (Err fault)
       → HandlesAny g a b r
-  any-fault a b fault (Ok reply) is nothing = let never : ⊥ = cc (is.0) in absurd never
-  any-fault a b fault (Err e) is nothing = any-nothing a b (Err e) (nothing-failed (state g a) (state g b) fault e nothing)
+  any-fault a b fault r is nothing = any-nothing a b r (nothing-fault (state g a) (state g b) fault r is nothing)
 
   -- A fault after which nothing is changed.
   pub any-failed : (a b : Held S) (fault : Fault) (r : Result Reply Fault) → IsErr r × IsErrAnd r (λ e. e ≡ fault)

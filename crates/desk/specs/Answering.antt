@@ -1,6 +1,7 @@
 -- How the desk answers a request, given tables that show a history.
 use Rattle.std.specs.Prelude.{◌≡◌, Bool, true, false, List, ◌∷◌, ℕ, Option, Some, None, is_none, Result, Err, IfOk, OnOk, OnErr, IsTrue}
-use Rattle.store.specs.Library.{Ghosts, Held, State, state, IsClean, IsOpen, HasCleanDisk, HasTables, IsAsItWas}
+use Rattle.store.specs.Library.{Ghosts, Held, State, state, IsClean, IsOpen, HasCleanDisk, HasTables, IsAsItWas, StaysReady}
+use Rattle.store.specs.Reads.{IsUsed}
 use Rattle.store.specs.Stops.{KeepsPicture, LeavesPicture, LeavesEither}
 use Rattle.circ_core.specs.Decides.{event}
 use Rattle.circ_core.specs.Views.{IsViewOf}
@@ -224,6 +225,8 @@ pub record Handled {S : Type 0} (request : Request)
   pub any : HandlesAny g old new result
   -- what only asks changes nothing, whatever rows the tables have
   pub asks : only_asks request.command ≡ true → ChangesNothing (state g old) (state g new) result
+  -- nor does a request whose key is used
+  pub repeats : IsUsed (owner_of request.caller) request.key (state g old).now → ChangesNothing (state g old) (state g new) result
   -- a stop leaves what was there before or what is there after the request
   pub left : IsClean g new → (H : History) → Shows (state g old) H
       → LeavesOneOf (state g new) H (after_one H request)

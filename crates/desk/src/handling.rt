@@ -8,9 +8,11 @@ ghost use Rattle.terms.specs.Limits.{IsOwner};
 ghost use Rattle.terms.specs.Texts.{request_text as request_text_of, reply_text as reply_text_of};
 ghost use Rattle.terms.specs.declared.reply.Reply.{Reply as ReplyOf};
 ghost use Rattle.store.specs.Commit.{command_made};
+ghost use Rattle.store.specs.Library.{state};
+ghost use Rattle.store.specs.Reads.{IsUsed};
 ghost use Rattle.model.specs.Requests.{may_send as may_send_command, only_asks};
 ghost use Rattle.desk.specs.Answering.{Handled, repeated, Records, AnswersCommand, AnswersByKey};
-ghost use Rattle.desk.specs.Answering.{HandlesAny, IsViewFor, NamesIf, NamesTouched, TouchesOnly};
+ghost use Rattle.desk.specs.Answering.{ChangesNothing, HandlesAny, IsViewFor, NamesIf, NamesTouched, TouchesOnly};
 
 use crate::asking::reply_to_question;
 use crate::callers::{is_known, may_send, refusal_for_another};
@@ -141,6 +143,8 @@ fn respond<S: Alter>(
         × (may_send_command (owner_of request.now.caller) request.now.command ≡ true))
         request.now.command touched.new S.Store store.old store.new result }
     ensures any { HandlesAny S.Store store.old store.new result }
+    ensures repeats { IsUsed (owner_of request.now.caller) request.now.key (state S.Store store.old).now
+        → ChangesNothing (state S.Store store.old) (state S.Store store.new) result }
 {
     let text = request_text(alloc, &request.command)?;
     match store.kept(request.caller.owner(), &request.key)? {

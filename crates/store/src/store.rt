@@ -9,7 +9,7 @@ ghost use Rattle.store.specs.Commit.{Commits, CreatesLibrary, OpensLibrary, Refu
 ghost use Rattle.store.specs.Limits.{limit_of};
 ghost use Rattle.store.specs.Migrating.{Migrates, TellsSchema};
 ghost use Rattle.store.specs.Schemas.{IsKnown};
-ghost use Rattle.store.specs.Reads.{Looked, Finds, IsReadable};
+ghost use Rattle.store.specs.Reads.{Looked, LooksUpKept, Finds, IsReadable};
 ghost use Rattle.circ_tables.specs.Patrons.{patrons};
 ghost use Rattle.circ_tables.specs.Loans.{loans};
 ghost use Rattle.circ_tables.specs.Holds.{holds};
@@ -135,9 +135,7 @@ impl<S: Alter> Store<S> {
 
     /// Reads what is kept under a caller's key. Faults 91, 93.
     pub fn kept(&mut self, owner: Owner, key: &Key) -> Result<Option<KeptReply>, Fault>
-        ensures { Looked (λ _. IsOwner owner)
-            (λ P kept. kept ≡ option_map reply_of (P.kept owner key.now))
-            (λ P. InLimits P × IsOwner owner) S.Store self.old self.new result }
+        ensures { LooksUpKept owner key.now S.Store self.old self.new result }
     {
         committed_is_held(&self.conn);
         get_kept(&mut self.conn, owner, key)

@@ -10,7 +10,7 @@ use Rattle.desk.specs.Answering.{LeavesOneOf, Shows, after_key}
 use Rattle.model.specs.Answers.{answer}
 use Rattle.desk.proofs.Handled.{allowed-both, not-page, reply-key, after-key, reply-page, after-page}
 use Rattle.desk.proofs.Looking.{if-ok-is, if-ok-given, on-err, on-ok, on-ok-any, on-ok-is, leaves-first}
-use Rattle.desk.proofs.Unchanged.{any-nothing, any-after, any-undone, nothing-then}
+use Rattle.desk.proofs.Unchanged.{any-nothing, any-after, any-undone, nothing-then, nothing-after, used-as}
 use Rattle.desk.proofs.Owning.{known-owner}
 use Rattle.desk.proofs.Untouched.{others-as, others-same}
 use Rattle.desk.specs.Touching.{IsAmong}
@@ -60,6 +60,11 @@ returns-clause-handled g c = record {
       let page : only_asks c.args.request.now.command ≡ false =
       not-page c.args.request.now.command c.in_default.not-Page c.in_default-command.not-Ask in
       let never : ⊥ = cc in absurd never;
+  repeats = λ used. nothing-after (state g.S.Store c.args.store.now) (state g.S.Store c.is_known.new.store)
+      (state g.S.Store c.respond.new.store) _ c.respond.result c.respond.ensures.answered.clean
+      c.in_ok-is_known.ensures.looks.nothing c.respond.ensures.any.ready
+      (λ same. c.respond.ensures.repeats (used-as (owner_of c.args.request.now.caller) c.args.request.now.key
+      (state g.S.Store c.args.store.now) (state g.S.Store c.is_known.new.store) same used));
   left = λ disk H shows.
       let r = c.args.request.now in
       let first = c.respond.ensures.answered.clean disk in
@@ -132,6 +137,9 @@ returns-in-Page-clause-handled g c = record {
   asks = λ only. nothing-then (state g.S.Store c.args.store.now) (state g.S.Store c.is_known.new.store)
       (state g.S.Store c.show.new.store) _ c.show.result c.show.ensures.looks.clean
       c.in_ok-is_known.ensures.looks.nothing c.show.ensures.looks.nothing;
+  repeats = λ used. nothing-then (state g.S.Store c.args.store.now) (state g.S.Store c.is_known.new.store)
+      (state g.S.Store c.show.new.store) _ c.show.result c.show.ensures.looks.clean
+      c.in_ok-is_known.ensures.looks.nothing c.show.ensures.looks.nothing;
   left = λ disk H shows.
       leaves-first (state g.S.Store c.show.new.store) (picture H) _
       (c.show.ensures.looks.left disk H (c.in_ok-is_known.ensures.looks.stays (c.show.ensures.looks.clean disk) H shows));
@@ -175,6 +183,9 @@ returns-in-Ask-clause-handled g c = record {
       (state g.S.Store c.reply_to_question.new.store) _ c.reply_to_question.result c.reply_to_question.ensures.looks.clean
       c.in_ok-is_known.ensures.looks.nothing c.reply_to_question.ensures.looks.nothing);
   asks = λ only. nothing-then (state g.S.Store c.args.store.now) (state g.S.Store c.is_known.new.store)
+      (state g.S.Store c.reply_to_question.new.store) _ c.reply_to_question.result c.reply_to_question.ensures.looks.clean
+      c.in_ok-is_known.ensures.looks.nothing c.reply_to_question.ensures.looks.nothing;
+  repeats = λ used. nothing-then (state g.S.Store c.args.store.now) (state g.S.Store c.is_known.new.store)
       (state g.S.Store c.reply_to_question.new.store) _ c.reply_to_question.result c.reply_to_question.ensures.looks.clean
       c.in_ok-is_known.ensures.looks.nothing c.reply_to_question.ensures.looks.nothing;
   left = λ disk H shows.
