@@ -14,7 +14,7 @@ use Rattle.model.proofs.ClosedDays.{eq-sym}
 use Rattle.model.proofs.SettingRanges.{none-some}
 use Rattle.desk.specs.Showing.{own_page, AreEnrolled}
 use Rattle.desk.specs.declared.showing.OwnPage.{OwnPage}
-use Rattle.desk.proofs.RowLists.{has, contains-has, has-contains}
+use Rattle.desk.proofs.RowLists.{has, contains-has, has-contains, rise-rises}
 
 -- ---- who is enrolled
 
@@ -22,21 +22,25 @@ any-has : (p : ℕ) (xs : List ℕ) → list_any (λ q. q == p) xs ≡ has p xs
 any-has p [] = refl
 any-has p (x ∷ xs) = ap (λ b. b || list_any (λ q. q == p) xs) (eq-sym x p) ∙ ap (λ b. (p == x) || b) (any-has p xs)
 
-pub enrolled : (H : History) (rows : List PatronRow) → AreRows (picture H).patrons (λ r. r.patron) AllPass rows → AreEnrolled H (map (λ r. r.patron) rows)
-enrolled H rows are p = any-has p (map (λ r. r.patron) rows) ∙ go (patron_of H p) refl
-  where
-    unlisted : patron_of H p ≡ None → (b : Bool) → has p (map (λ r. r.patron) rows) ≡ b → has p (map (λ r. r.patron) rows) ≡ false
-    unlisted none true e =
-        let found : (r : PatronRow) × Contains rows r × (r.patron ≡ p) = has-contains (λ r. r.patron) rows p e in
-        let there : (picture H).patrons p ≡ Some found.0 = subst (λ n. (picture H).patrons n ≡ Some found.0) found.2 (are.sound found.0 found.1).0 in
-        absurd (none-some found.0 (sym (ap (option_map (patron_columns H p)) none) ∙ there))
-    unlisted none false e = e
+module _ (H : History) (rows : List PatronRow) (are : AreRows (picture H).patrons (λ r. r.patron) AllPass rows) (p : ℕ) where
+  unlisted : patron_of H p ≡ None → (b : Bool) → has p (map (λ r. r.patron) rows) ≡ b → has p (map (λ r. r.patron) rows) ≡ false
+  unlisted none true e =
+      let found : (r : PatronRow) × Contains rows r × (r.patron ≡ p) = has-contains (λ r. r.patron) rows p e in
+      let there : (picture H).patrons p ≡ Some found.0 = subst (λ n. (picture H).patrons n ≡ Some found.0) found.2 (are.sound found.0 found.1).0 in
+      absurd (none-some found.0 (sym (ap (option_map (patron_columns H p)) none) ∙ there))
+  unlisted none false e = e
 
-    go : (o : Option PatronFacts) → patron_of H p ≡ o → has p (map (λ r. r.patron) rows) ≡ is_some (patron_of H p)
-    go (Some f) e =
-        let there : Contains rows (patron_columns H p f) = are.whole p (patron_columns H p f) (ap (option_map (patron_columns H p)) e) tt in
-        contains-has (λ r. r.patron) rows (patron_columns H p f) there.0 there.1 there.2 ∙ sym (ap is_some e)
-    go None e = unlisted e (has p (map (λ r. r.patron) rows)) refl ∙ sym (ap is_some e)
+  listed : (o : Option PatronFacts) → patron_of H p ≡ o → has p (map (λ r. r.patron) rows) ≡ is_some (patron_of H p)
+  listed (Some f) e =
+      let there : Contains rows (patron_columns H p f) = are.whole p (patron_columns H p f) (ap (option_map (patron_columns H p)) e) tt in
+      contains-has (λ r. r.patron) rows (patron_columns H p f) there.0 there.1 there.2 ∙ sym (ap is_some e)
+  listed None e = unlisted e (has p (map (λ r. r.patron) rows)) refl ∙ sym (ap is_some e)
+
+pub enrolled : (H : History) (rows : List PatronRow) → AreRows (picture H).patrons (λ r. r.patron) AllPass rows → AreEnrolled H (map (λ r. r.patron) rows)
+enrolled H rows are = record {
+  each = λ p. any-has p (map (λ r. r.patron) rows) ∙ listed H rows are p (patron_of H p) refl;
+  rise = rise-rises (λ r. r.patron) rows are.rise;
+}
 
 -- ---- the page of one who is
 

@@ -4,7 +4,7 @@ ghost use Rattle.std.specs.Prelude.{◌≡◌, map, IfOk};
 ghost use Rattle.desk.specs.Answering.{Learns};
 ghost use Rattle.desk.specs.Showing.{own_page as own_page_of, AreEnrolled};
 
-use crate::patron_page::show;
+use crate::patron_page::show_row;
 use sqlite::Alter;
 use std::alloc::Global;
 use store::Store;
@@ -48,7 +48,7 @@ pub(crate) fn own_page<S: Alter>(
 {
     match store.patron(alloc, patron)? {
         Some(row) => {
-            let reply = show(store, alloc, patron)?;
+            let reply = show_row(store, alloc, &row, patron)?;
             let PatronRow { card_key, .. } = row;
             Ok(Some(OwnPage { card_key, reply }))
         }

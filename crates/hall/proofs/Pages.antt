@@ -110,7 +110,7 @@ first-whole H ps now are h p = h p ∙ by (list_any (λ r. r == p) ps) refl
   where
     by : (b : Bool) → list_any (λ r. r == p) ps ≡ b → cond b (own_page H p) None ≡ own_page H p
     by true e = refl
-    by false e = no-map _ (patron_of H p) (sym (are p) ∙ e)
+    by false e = no-map _ (patron_of H p) (sym (are.each p) ∙ e)
 
 -- ---- who is enrolled stays so
 

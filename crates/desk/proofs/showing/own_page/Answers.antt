@@ -13,12 +13,12 @@ returns-in_err-row g c = fails _ c.from_residual.ensures
 pub returns-in_err-reply-in-Some : goal.returns-in_err-reply-in-Some
 returns-in_err-reply-in-Some g c =
     let row = looked c.in_ok-row.ensures (λ H legal forms. patron-in H legal forms c.args.patron) legal-rows in
-    fails _ c.from_residual-in_err-reply-in-Some.ensures (row ⨾ c.in_err-reply-in-Some.ensures) (λ _ _ _. (tt, λ _. tt))
+    fails _ c.from_residual-in_err-reply-in-Some.ensures (row ⨾ c.in_err-reply-in-Some.ensures) (λ H list _. (tt, λ found. sym found ∙ c.in-Some.is))
 
 pub returns-in_ok-reply-in-Some : goal.returns-in_ok-reply-in-Some
 returns-in_ok-reply-in-Some g c =
     let row = looked c.in_ok-row.ensures (λ H legal forms. patron-in H legal forms c.args.patron) legal-rows in
-    gives (row ⨾ c.in_ok-reply-in-Some.ensures) (λ _ _ _. (tt, λ _. tt))
+    gives (row ⨾ c.in_ok-reply-in-Some.ensures) (λ H list _. (tt, λ found. sym found ∙ c.in-Some.is))
     (λ H legal _ is. page-there H c.args.patron c.in-Some.row c.in_ok-reply-in-Some.reply (sym is.0 ∙ c.in-Some.is) (is.1 Desk))
 
 pub returns-in-None : goal.returns-in-None
