@@ -6,7 +6,8 @@ ghost use Rattle.terms.specs.Texts.{request_text as request_text_of};
 use std::alloc::Global;
 use std::marker::Model;
 use std::sync::Arc;
-use terms::{Caller, Memory, Request, Text, command_has_forms, request_text, request_texts_differ};
+use terms::laws::{command_has_forms, request_texts_differ};
+use terms::{Caller, Memory, Request, Text, request_text};
 
 /// A request with the text of its command.
 #[derive(Drop)]

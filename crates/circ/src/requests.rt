@@ -9,7 +9,8 @@ use front::{WordFault, read_words};
 use sqlite::Alter;
 use std::alloc::Global;
 use std::io::Write;
-use terms::{Caller, Command, Key, Request, request_texts_differ};
+use terms::laws::request_texts_differ;
+use terms::{Caller, Command, Key, Request};
 
 /// Reads the command that the words spell. No two commands have the same words.
 fn read_command(alloc: Global, words: &[String]) -> Result<Command, WordFault>

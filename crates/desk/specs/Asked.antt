@@ -1,23 +1,21 @@
 -- What the desk's questions show of the tables.
-use Rattle.std.specs.Prelude.{◌≡◌, ◌↔◌, ◌<◌, ◌+◌, ℕ, true, List, [], ◌∷◌, map, replicate, Some, None, codes, decimal}
+use Rattle.std.specs.Prelude.{◌≡◌, ◌↔◌, ◌<◌, ℕ, true, List, [], ◌∷◌, replicate, Some, codes, decimal}
 use Rattle.std.specs.List.{join_with_byte}
 use Rattle.terms.specs.declared.question.Question.TheVariants as question
 use Rattle.finding.specs.Finding.{finds}
 use Rattle.terms.specs.declared.row.CopyRow.{CopyRow}
 use Rattle.terms.specs.declared.row.PatronRow.{PatronRow}
 use Rattle.terms.specs.declared.row.TitleRow.{TitleRow}
-use Rattle.model.specs.Accounts.{lines, nth_line, account, charges, credits, owed}
-use Rattle.model.specs.Asking.{asked, copy_line, place_line, place_words, pulled_for, travels_for}
-use Rattle.model.specs.Asking.{copies_list, queue_list, account_list, debts_list, patrons_search, titles_search}
-use Rattle.model.specs.AskingLaws.{HasRisingLists, ListsShowOnce, has_number}
+use Rattle.model.specs.Asking.{asked, copy_line, place_line, place_words, copies_list, patrons_search, titles_search}
+use Rattle.model.specs.AskingLaws.{ServesFirst, ServesPulled, ShowsAccounts, ShowsDebts, HasRisingLists, ListsShowOnce, has_number}
 use Rattle.model.specs.AskingLaws.{SearchesShowOnce, IsSearchedToItsEnd, found_in_turn}
 use Rattle.model.specs.Claims.{Claims}
 use Rattle.model.specs.History.{History}
-use Rattle.model.specs.Invariant.{Serves}
+use Rattle.model.specs.Laws.{IsInBalance}
 use Rattle.model.specs.Pages.{spaced}
 use Rattle.model.specs.Picture.{Picture}
 use Rattle.model.specs.RowLaws.{ShowsRows}
-use Rattle.model.specs.Places.{Place, Shelf, place, route, title_of_copy}
+use Rattle.model.specs.Places.{Place, Shelf}
 
 -- `copy` and `copies` show the copy in this place.
 pub record IsToldAt (H : History) (copy : ℕ) (at : Place) : Type 0 where
@@ -39,22 +37,15 @@ pub record Asked (H : History) (T : Picture) : Type 0 where
       → ((at : Place) → Claims T copy at → ⊥) → IsToldAt H copy (Shelf row.home)
   -- The first in a title's queue gets the next copy of the title that routing assigns: one that travels for
   -- no hold.
-  pub first : (title hold : ℕ) (others : List ℕ) (copy branch : ℕ)
-      → (queue_list H title).numbers ≡ hold ∷ others → title_of_copy H copy ≡ title
-      → travels_for (place H copy) ≡ None → Serves (route H copy branch) hold
+  pub first : ServesFirst H
   -- A copy to pull from a branch's shelves goes, handed in there, to the hold shown with it.
-  pub pulled : (branch hold copy : ℕ) → pulled_for H branch hold ≡ Some copy
-      → Serves (route H copy branch) hold
+  pub pulled : ServesPulled H
   -- The lines shown of a patron's account are all of them, in order.
-  pub account_lines : (patron : ℕ)
-      → map (nth_line (lines H)) (account_list H patron).numbers ≡ map Some (account H patron)
+  pub account_lines : ShowsAccounts H
   -- Their charges are the payments and waivers plus what the head says is owed.
-  pub balance : (patron : ℕ)
-      → charges (account H patron) ≡ credits (account H patron) + owed H patron
+  pub balance : (patron : ℕ) → IsInBalance H patron
   -- The debts show exactly the patrons whose charges exceed payments and waivers.
-  pub debts : (patron : ℕ)
-      → has_number (debts_list H).numbers patron
-      ↔ (credits (account H patron) < charges (account H patron))
+  pub debts : ShowsDebts H
   -- Each list has exactly the numbers of the rows that pass its test, and the till's sums are those of the day's
   -- rows.
   pub rows : ShowsRows H T

@@ -23,9 +23,10 @@ use circ_core::{Changes, View, decide};
 use sqlite::Alter;
 use std::alloc::Global;
 use store::{KeptReply, Store};
+use terms::laws::command_has_forms;
 use terms::{
-    Command, Fault, KeptPut, Key, Owner, Refusal, Reply, Request, Text, command_has_forms,
-    read_reply, reply_text, request_text,
+    Command, Fault, KeptPut, Key, Owner, Refusal, Reply, Request, Text, read_reply, reply_text,
+    request_text,
 };
 
 /// Commits the changes, and keeps the request with its reply.

@@ -83,7 +83,7 @@ owing-enrolled H p legal lt = go (patron_of H p) refl
         let never : ⊥ = omega (arith, none) in absurd never
 
 pub debts-are-shown : DebtsAreShown
-debts-are-shown H p legal = (there, back)
+debts-are-shown H legal p = (there, back)
   where
     there : has_number (debts_list H).numbers p → credits (account H p) < charges (account H p)
     there e =

@@ -2,7 +2,7 @@
 use Rattle.std.specs.Prelude.{◌≡◌, ℕ, ◌<◌, ◌==◌, ◌↔◌, true, List, [], ◌∷◌, ◌++◌, filter, map, length, replicate, Some, None, is_some}
 use Rattle.std.specs.List.{list_any}
 use Rattle.model.specs.History.{History, copy_of, patron_of, title_of}
-use Rattle.model.specs.Places.{Place, Shelf, place, line, route, title_of_copy, home_of}
+use Rattle.model.specs.Places.{Place, Shelf, place, route, title_of_copy, home_of}
 use Rattle.model.specs.Asking.{shown_from, left_from, last_of, above, pulled_for, travels_for}
 use Rattle.finding.specs.Finding.{finds}
 use Rattle.model.specs.Asking.{Search, found_from, reached_from, unseen_from, patrons_search, titles_search}
@@ -127,25 +127,37 @@ ListsRise = (H : History) → HasRisingLists H
 
 -- ---- whose turn it is
 
--- The first hold in a title's line gets the next copy of the title that routing assigns: one that travels for
+-- The first hold in a title's queue gets the next copy of the title that routing assigns: one that travels for
 -- no hold.
-abbrev pub FirstIsServed : Type 0
-FirstIsServed = (H : History) (t h : ℕ) (hs : List ℕ) (c b : ℕ) → line H t ≡ h ∷ hs → title_of_copy H c ≡ t → travels_for (place H c) ≡ None
+abbrev pub ServesFirst : History → Type 0
+ServesFirst H = (t h : ℕ) (hs : List ℕ) (c b : ℕ) → (queue_list H t).numbers ≡ h ∷ hs → title_of_copy H c ≡ t → travels_for (place H c) ≡ None
     → Serves (route H c b) h
 
+abbrev pub FirstIsServed : Type 0
+FirstIsServed = (H : History) → ServesFirst H
+
 -- A copy pulled from a branch's shelves for a hold, and handed in there, goes to that hold.
+abbrev pub ServesPulled : History → Type 0
+ServesPulled H = (b h c : ℕ) → pulled_for H b h ≡ Some c → Serves (route H c b) h
+
 abbrev pub PulledCopiesServe : Type 0
-PulledCopiesServe = (H : History) (b h c : ℕ) → pulled_for H b h ≡ Some c → Serves (route H c b) h
+PulledCopiesServe = (H : History) → ServesPulled H
 
 -- ---- who owes what
 
 -- The debts list a patron exactly if the patron's fines and prices exceed the payments and waivers.
+abbrev pub ShowsDebts : History → Type 0
+ShowsDebts H = (p : ℕ) → has_number (debts_list H).numbers p ↔ (credits (account H p) < charges (account H p))
+
 abbrev pub DebtsAreShown : Type 0
-DebtsAreShown = (H : History) (p : ℕ) → IsLegal H → has_number (debts_list H).numbers p ↔ (credits (account H p) < charges (account H p))
+DebtsAreShown = (H : History) → IsLegal H → ShowsDebts H
 
 -- The lines shown of a patron's account are all its lines, in order: their balance is what the patron owes.
+abbrev pub ShowsAccounts : History → Type 0
+ShowsAccounts H = (p : ℕ) → map (nth_line (lines H)) (account_list H p).numbers ≡ map Some (account H p)
+
 abbrev pub AccountsAreShown : Type 0
-AccountsAreShown = (H : History) (p : ℕ) → map (nth_line (lines H)) (account_list H p).numbers ≡ map Some (account H p)
+AccountsAreShown = (H : History) → ShowsAccounts H
 
 -- ---- where copies are
 

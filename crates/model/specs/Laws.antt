@@ -27,8 +27,11 @@ abbrev pub StaysLegal : Type 0
 StaysLegal = (H : History) (rs : List Request) → IsLegal H → IsLegal (after H rs)
 
 -- Charges are payments and waivers plus what is owed, for every patron.
+abbrev pub IsInBalance : History → ℕ → Type 0
+IsInBalance H p = charges (account H p) ≡ credits (account H p) + owed H p
+
 abbrev pub Balance : Type 0
-Balance = (H : History) (p : ℕ) → IsLegal H → charges (account H p) ≡ credits (account H p) + owed H p
+Balance = (H : History) (p : ℕ) → IsLegal H → IsInBalance H p
 
 -- A hold is ready exactly if a copy stands on its hold shelf, and then only one does; at most one copy
 -- travels for it, to its branch.

@@ -5,7 +5,7 @@ mod borrowed_rows;
 mod command;
 mod fault;
 mod form;
-mod laws;
+pub mod laws;
 mod limits;
 mod money;
 mod number;
@@ -26,10 +26,6 @@ pub use calendar::{Day, Memory, Weekdays};
 pub use command::{Caller, Command, Owner, Request, request_text};
 pub use fault::{Fault, ServiceFault};
 pub use form::{CommandForm, PartForm, PartKind, command_forms, parts_for};
-pub use laws::{
-    can_be_kept, command_has_forms, commands_are_listed, reply_texts_are_utf8, reply_texts_differ,
-    request_texts_are_utf8, request_texts_differ,
-};
 pub use limits::{
     HIGHEST_CAP, HIGHEST_DEBT, HIGHEST_PRICE, HIGHEST_RATE, LARGEST_SUM, LAST_LARGE_NUMBER,
     LAST_NEXT_NUMBER, LAST_NUMBER, LAST_SMALL_NUMBER, LAST_TODAY, LONGEST_PERIOD, LONGEST_PICKUP,
