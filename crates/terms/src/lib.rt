@@ -11,6 +11,7 @@ mod money;
 mod number;
 mod order;
 mod question;
+mod question_words;
 mod reading;
 mod refusal;
 mod reply;

@@ -12,10 +12,12 @@ ghost use Rattle.terms.specs.declared.words.WordFault.TheVariants.{NotUnderstood
 
 use crate::command::Command;
 use crate::number::{
-    BranchId, Cents, CopyId, CopyKind, Count, Days, HoldId, LineId, LoanId, PatronId, PatronKind,
-    TitleId,
+    BranchId, Cents, CopyId, CopyKind, Count, Days, HoldId, LoanId, PatronId, PatronKind, TitleId,
 };
-use crate::question::Question;
+use crate::question_words::{
+    account, borrower, branches, closed_days, copies, copy, debts, find_patrons, find_titles,
+    kinds, loans, missing_copies, overdue, pulls, queue, rules, shelf, till, today, transits,
+};
 use crate::reading::read_number;
 use crate::text::{CardKey, Name};
 use crate::week::Mask;
@@ -40,7 +42,7 @@ impl From<AllocError> for WordFault {
 }
 
 /// Reads a number.
-fn number(word: &str) -> Result<u32, WordFault>
+pub(crate) fn number(word: &str) -> Result<u32, WordFault>
     ensures read { IfOk result (λ n. (n < 2 ^ 32) × (word.now ≡ decimal n)) }
     ensures refused { result ≡ Err Refused → IsNoNumber word.now }
 {
@@ -48,7 +50,7 @@ fn number(word: &str) -> Result<u32, WordFault>
 }
 
 /// Reads a day.
-fn read_day(word: &str) -> Result<Day, WordFault>
+pub(crate) fn read_day(word: &str) -> Result<Day, WordFault>
     ensures read { IfOk result (λ n. IsDayNumber n × (word.now ≡ day_text n)) }
     ensures refused { result ≡ Err Refused → IsNoDay word.now }
 {
@@ -67,7 +69,7 @@ fn read_mask(word: &str) -> Result<Mask, WordFault>
 }
 
 /// Reads a name.
-fn read_name(alloc: Global, word: &str) -> Result<Name, WordFault>
+pub(crate) fn read_name(alloc: Global, word: &str) -> Result<Name, WordFault>
     ensures read { IfOk result (λ name. IsName name × (word.now ≡ name)) }
     ensures refused { result ≡ Err Refused → IsNoName word.now }
 {
@@ -532,182 +534,6 @@ fn page(values: &[&str]) -> Result<Command, WordFault>
     };
     let patron = PatronId::new(number(patron)?);
     Ok(Command::Page { patron })
-}
-
-#[tactic(auto, unfolding(crate::specs::Texts::command_words))]
-fn copy(values: &[&str]) -> Result<Command, WordFault>
-    ensures read { IfOk result (IsReadAs (codes "copy") (texts values.now)) }
-    ensures refused { result ≡ Err Refused → IsNoCommand (codes "copy") (texts values.now) }
-{
-    let [copy] = values else {
-        return Err(WordFault::NotUnderstood);
-    };
-    let copy = CopyId::new(number(copy)?);
-    Ok(Command::Ask(Question::Copy { copy }))
-}
-
-#[tactic(auto, unfolding(crate::specs::Texts::command_words))]
-fn copies(values: &[&str]) -> Result<Command, WordFault>
-    ensures read { IfOk result (IsReadAs (codes "copies") (texts values.now)) }
-    ensures refused { result ≡ Err Refused → IsNoCommand (codes "copies") (texts values.now) }
-{
-    let [title, after] = values else {
-        return Err(WordFault::NotUnderstood);
-    };
-    let title = TitleId::new(number(title)?);
-    let after = CopyId::new(number(after)?);
-    Ok(Command::Ask(Question::Copies { title, after }))
-}
-
-#[tactic(auto, unfolding(crate::specs::Texts::command_words))]
-fn queue(values: &[&str]) -> Result<Command, WordFault>
-    ensures read { IfOk result (IsReadAs (codes "queue") (texts values.now)) }
-    ensures refused { result ≡ Err Refused → IsNoCommand (codes "queue") (texts values.now) }
-{
-    let [title, after] = values else {
-        return Err(WordFault::NotUnderstood);
-    };
-    let title = TitleId::new(number(title)?);
-    let after = HoldId::new(number(after)?);
-    Ok(Command::Ask(Question::Queue { title, after }))
-}
-
-#[tactic(auto, unfolding(crate::specs::Texts::command_words))]
-fn account(values: &[&str]) -> Result<Command, WordFault>
-    ensures read { IfOk result (IsReadAs (codes "account") (texts values.now)) }
-    ensures refused { result ≡ Err Refused → IsNoCommand (codes "account") (texts values.now) }
-{
-    let [patron, after] = values else {
-        return Err(WordFault::NotUnderstood);
-    };
-    let patron = PatronId::new(number(patron)?);
-    let after = LineId::new(number(after)?);
-    Ok(Command::Ask(Question::Account { patron, after }))
-}
-
-#[tactic(auto, unfolding(crate::specs::Texts::command_words))]
-fn debts(values: &[&str]) -> Result<Command, WordFault>
-    ensures read { IfOk result (IsReadAs (codes "debts") (texts values.now)) }
-    ensures refused { result ≡ Err Refused → IsNoCommand (codes "debts") (texts values.now) }
-{
-    let [after] = values else {
-        return Err(WordFault::NotUnderstood);
-    };
-    let after = PatronId::new(number(after)?);
-    Ok(Command::Ask(Question::Debts { after }))
-}
-
-#[tactic(auto, unfolding(crate::specs::Texts::command_words))]
-fn overdue(values: &[&str]) -> Result<Command, WordFault>
-    ensures read { IfOk result (IsReadAs (codes "overdue") (texts values.now)) }
-    ensures refused { result ≡ Err Refused → IsNoCommand (codes "overdue") (texts values.now) }
-{
-    let [branch, after] = values else {
-        return Err(WordFault::NotUnderstood);
-    };
-    let branch = BranchId::new(number(branch)?);
-    let after = LoanId::new(number(after)?);
-    Ok(Command::Ask(Question::Overdue { branch, after }))
-}
-
-#[tactic(auto, unfolding(crate::specs::Texts::command_words))]
-fn shelf(values: &[&str]) -> Result<Command, WordFault>
-    ensures read { IfOk result (IsReadAs (codes "shelf") (texts values.now)) }
-    ensures refused { result ≡ Err Refused → IsNoCommand (codes "shelf") (texts values.now) }
-{
-    let [branch, after] = values else {
-        return Err(WordFault::NotUnderstood);
-    };
-    let branch = BranchId::new(number(branch)?);
-    let after = HoldId::new(number(after)?);
-    Ok(Command::Ask(Question::Shelf { branch, after }))
-}
-
-#[tactic(auto, unfolding(crate::specs::Texts::command_words))]
-fn pulls(values: &[&str]) -> Result<Command, WordFault>
-    ensures read { IfOk result (IsReadAs (codes "pulls") (texts values.now)) }
-    ensures refused { result ≡ Err Refused → IsNoCommand (codes "pulls") (texts values.now) }
-{
-    let [branch, after] = values else {
-        return Err(WordFault::NotUnderstood);
-    };
-    let branch = BranchId::new(number(branch)?);
-    let after = HoldId::new(number(after)?);
-    Ok(Command::Ask(Question::Pulls { branch, after }))
-}
-
-#[tactic(auto, unfolding(crate::specs::Texts::command_words))]
-fn transits(values: &[&str]) -> Result<Command, WordFault>
-    ensures read { IfOk result (IsReadAs (codes "transits") (texts values.now)) }
-    ensures refused { result ≡ Err Refused → IsNoCommand (codes "transits") (texts values.now) }
-{
-    let [branch, after] = values else {
-        return Err(WordFault::NotUnderstood);
-    };
-    let branch = BranchId::new(number(branch)?);
-    let after = CopyId::new(number(after)?);
-    Ok(Command::Ask(Question::Transits { branch, after }))
-}
-
-#[tactic(auto, unfolding(crate::specs::Texts::command_words))]
-fn till(values: &[&str]) -> Result<Command, WordFault>
-    ensures read { IfOk result (IsReadAs (codes "till") (texts values.now)) }
-    ensures refused { result ≡ Err Refused → IsNoCommand (codes "till") (texts values.now) }
-{
-    let [day] = values else {
-        return Err(WordFault::NotUnderstood);
-    };
-    let day = read_day(day)?;
-    Ok(Command::Ask(Question::Till { day }))
-}
-
-#[tactic(auto, unfolding(crate::specs::Texts::command_words))]
-fn today(values: &[&str]) -> Result<Command, WordFault>
-    ensures read { IfOk result (IsReadAs (codes "today") (texts values.now)) }
-    ensures refused { result ≡ Err Refused → IsNoCommand (codes "today") (texts values.now) }
-{
-    let [] = values else {
-        return Err(WordFault::NotUnderstood);
-    };
-    Ok(Command::Ask(Question::Today))
-}
-
-#[tactic(auto, unfolding(crate::specs::Texts::command_words))]
-fn borrower(values: &[&str]) -> Result<Command, WordFault>
-    ensures read { IfOk result (IsReadAs (codes "borrower") (texts values.now)) }
-    ensures refused { result ≡ Err Refused → IsNoCommand (codes "borrower") (texts values.now) }
-{
-    let [patron] = values else {
-        return Err(WordFault::NotUnderstood);
-    };
-    let patron = PatronId::new(number(patron)?);
-    Ok(Command::Ask(Question::Borrower { patron }))
-}
-
-#[tactic(auto, unfolding(crate::specs::Texts::command_words))]
-fn find_patrons(alloc: Global, values: &[&str]) -> Result<Command, WordFault>
-    ensures read { IfOk result (IsReadAs (codes "find-patrons") (texts values.now)) }
-    ensures refused { result ≡ Err Refused → IsNoCommand (codes "find-patrons") (texts values.now) }
-{
-    let [after, text] = values else {
-        return Err(WordFault::NotUnderstood);
-    };
-    let after = PatronId::new(number(after)?);
-    let text = read_name(alloc, text)?;
-    Ok(Command::Ask(Question::FindPatrons { after, text }))
-}
-
-#[tactic(auto, unfolding(crate::specs::Texts::command_words))]
-fn find_titles(alloc: Global, values: &[&str]) -> Result<Command, WordFault>
-    ensures read { IfOk result (IsReadAs (codes "find-titles") (texts values.now)) }
-    ensures refused { result ≡ Err Refused → IsNoCommand (codes "find-titles") (texts values.now) }
-{
-    let [after, text] = values else {
-        return Err(WordFault::NotUnderstood);
-    };
-    let after = TitleId::new(number(after)?);
-    let text = read_name(alloc, text)?;
-    Ok(Command::Ask(Question::FindTitles { after, text }))
 }
 
 /// Reads the command with this name from its words, each in its form. Anything else is
