@@ -55,10 +55,12 @@ texts_of_lending = refl
 
 texts_of_questions : map (λ asked. request_text (Ask asked))
     (question.Copy 10 ∷ question.Copies 100 9 ∷ question.Queue 100 8 ∷ question.Account 7 6 ∷ question.Debts 5 ∷ question.Overdue 1 4 ∷ question.Shelf 2 3 ∷ question.Pulls 1 9
-    ∷ question.Transits 2 8 ∷ question.Today ∷ question.Borrower 7 ∷ question.FindPatrons 3 (codes "di east") ∷ question.FindTitles 4 (codes "roads") ∷ [])
+    ∷ question.Transits 2 8 ∷ question.Today ∷ question.Borrower 7 ∷ question.FindPatrons 3 (codes "di east") ∷ question.FindTitles 4 (codes "roads")
+    ∷ question.Branches 0 ∷ question.ClosedDays 1 11016 ∷ question.Kinds 2 ∷ question.Rules 1 2 ∷ question.MissingCopies 9 ∷ question.Loans 10 3 ∷ [])
     ≡ map codes
     ("copy 10" ∷ "copies 100 9" ∷ "queue 100 8" ∷ "account 7 6" ∷ "debts 5" ∷ "overdue 1 4" ∷ "shelf 2 3" ∷ "pulls 1 9"
-    ∷ "transits 2 8" ∷ "today" ∷ "borrower 7" ∷ "find-patrons 3 di east" ∷ "find-titles 4 roads" ∷ [])
+    ∷ "transits 2 8" ∷ "today" ∷ "borrower 7" ∷ "find-patrons 3 di east" ∷ "find-titles 4 roads"
+    ∷ "branches 0" ∷ "closed-days 1 11016" ∷ "kinds 2" ∷ "rules 1 2" ∷ "missing-copies 9" ∷ "loans 10 3" ∷ [])
 unfolding digits request_text command_words
 texts_of_questions = refl
 
@@ -81,7 +83,8 @@ each =
     ∷ Rehome 10 2 ∷ CheckOut 7 10 2 ∷ CheckIn 10 2 ∷ Renew 5 ∷ PlaceHold 3 100 4 None ∷ PlaceHold 3 100 4 (Some 11016) ∷ CancelHold 5 ∷ Unshelve 6
     ∷ UnshelveCancelled 7 ∷ Missing 10 ∷ Withdraw 11 ∷ Pay 7 250 ∷ Waive 8 30 ∷ Page 9
     ∷ map Ask (question.Copy 10 ∷ question.Copies 100 9 ∷ question.Queue 100 8 ∷ question.Account 7 6 ∷ question.Debts 5 ∷ question.Overdue 1 4 ∷ question.Shelf 2 3
-    ∷ question.Pulls 1 9 ∷ question.Transits 2 8 ∷ question.Till 11016 ∷ question.Today ∷ question.Borrower 7 ∷ question.FindPatrons 3 [] ∷ question.FindTitles 4 [] ∷ [])
+    ∷ question.Pulls 1 9 ∷ question.Transits 2 8 ∷ question.Till 11016 ∷ question.Today ∷ question.Borrower 7 ∷ question.FindPatrons 3 [] ∷ question.FindTitles 4 []
+    ∷ question.Branches 0 ∷ question.ClosedDays 1 11016 ∷ question.Kinds 2 ∷ question.Rules 1 2 ∷ question.MissingCopies 9 ∷ question.Loans 10 3 ∷ [])
 
 -- What a command says has the kinds that the table of commands has under its name.
 kinds_of_parts : map (λ command. Some (map kind_of (said command).1)) each
@@ -160,3 +163,4 @@ longest_name = refl
 any_keys : map is_key ([] ∷ codes "a1" ∷ codes "a b" ∷ codes "a_b" ∷ []) ≡ false ∷ true ∷ true ∷ false ∷ []
 unfolding is_outside_key
 any_keys = refl
+

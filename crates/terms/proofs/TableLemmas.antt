@@ -113,7 +113,13 @@ command_from name parts =
     else (if bytes_eq name (codes "borrower") then Ask (question.Borrower (n 0))
     else (if bytes_eq name (codes "find-patrons") then Ask (question.FindPatrons (n 0) (t 1))
     else (if bytes_eq name (codes "find-titles") then Ask (question.FindTitles (n 0) (t 1))
-    else Page (n 0))))))))))))))))))))))))))))))))))))))))))
+    else (if bytes_eq name (codes "branches") then Ask (question.Branches (n 0))
+    else (if bytes_eq name (codes "closed-days") then Ask (question.ClosedDays (n 0) (n 1))
+    else (if bytes_eq name (codes "kinds") then Ask (question.Kinds (n 0))
+    else (if bytes_eq name (codes "rules") then Ask (question.Rules (n 0) (n 1))
+    else (if bytes_eq name (codes "missing-copies") then Ask (question.MissingCopies (n 0))
+    else (if bytes_eq name (codes "loans") then Ask (question.Loans (n 0) (n 1))
+    else Page (n 0))))))))))))))))))))))))))))))))))))))))))))))))
 
 pub record IsTold (command : Command) : Type 0 where
   pub parts : List Column

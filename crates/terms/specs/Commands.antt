@@ -97,6 +97,12 @@ commands =
     ∷ (codes "borrower", (codes "patron", kind.Number) ∷ [])
     ∷ (codes "find-patrons", (codes "after", kind.Number) ∷ (codes "text", kind.Name) ∷ [])
     ∷ (codes "find-titles", (codes "after", kind.Number) ∷ (codes "text", kind.Name) ∷ [])
+    ∷ (codes "branches", (codes "after", kind.Number) ∷ [])
+    ∷ (codes "closed-days", (codes "branch", kind.Number) ∷ (codes "after", kind.Number) ∷ [])
+    ∷ (codes "kinds", (codes "after", kind.Number) ∷ [])
+    ∷ (codes "rules", (codes "kind", kind.Number) ∷ (codes "after", kind.Number) ∷ [])
+    ∷ (codes "missing-copies", (codes "after", kind.Number) ∷ [])
+    ∷ (codes "loans", (codes "copy", kind.Number) ∷ (codes "after", kind.Number) ∷ [])
     ∷ []
 
 -- The parts of the command with this name.

@@ -65,6 +65,12 @@ questioned question.Today = (codes "today", [])
 questioned (question.Borrower patron) = (codes "borrower", Number patron ∷ [])
 questioned (question.FindPatrons after text) = (codes "find-patrons", Number after ∷ Name text ∷ [])
 questioned (question.FindTitles after text) = (codes "find-titles", Number after ∷ Name text ∷ [])
+questioned (question.Branches after) = (codes "branches", Number after ∷ [])
+questioned (question.ClosedDays branch after) = (codes "closed-days", Number branch ∷ Number after ∷ [])
+questioned (question.Kinds after) = (codes "kinds", Number after ∷ [])
+questioned (question.Rules kind after) = (codes "rules", Number kind ∷ Number after ∷ [])
+questioned (question.MissingCopies after) = (codes "missing-copies", Number after ∷ [])
+questioned (question.Loans copy after) = (codes "loans", Number copy ∷ Number after ∷ [])
 
 -- what a command says: its name, and its parts in order
 abbrev pub said : Command → List ℕ × List Part

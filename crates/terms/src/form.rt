@@ -338,6 +338,30 @@ const COMMANDS: &[CommandForm] = &[
         name: "find-titles",
         parts: &[AFTER, TEXT],
     },
+    CommandForm {
+        name: "branches",
+        parts: &[AFTER],
+    },
+    CommandForm {
+        name: "closed-days",
+        parts: &[BRANCH, AFTER],
+    },
+    CommandForm {
+        name: "kinds",
+        parts: &[AFTER],
+    },
+    CommandForm {
+        name: "rules",
+        parts: &[KIND, AFTER],
+    },
+    CommandForm {
+        name: "missing-copies",
+        parts: &[AFTER],
+    },
+    CommandForm {
+        name: "loans",
+        parts: &[COPY, AFTER],
+    },
 ];
 
 /// Returns the commands, each with its parts.

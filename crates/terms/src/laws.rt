@@ -89,6 +89,27 @@ fn question_has_forms(question: &Question)
             let _after = after.number();
             let _text = text.as_str();
         }
+        Question::Branches { after } => {
+            let _after = after.number();
+        }
+        Question::ClosedDays { branch, after } => {
+            let _branch = branch.number();
+            let _after = after.number();
+        }
+        Question::Kinds { after } => {
+            let _after = after.number();
+        }
+        Question::Rules { kind, after } => {
+            let _kind = kind.number();
+            let _after = after.number();
+        }
+        Question::MissingCopies { after } => {
+            let _after = after.number();
+        }
+        Question::Loans { copy, after } => {
+            let _copy = copy.number();
+            let _after = after.number();
+        }
     }
 }
 

@@ -34,8 +34,8 @@ pub use limits::{
 };
 pub use money::fine;
 pub use number::{
-    BranchId, Cents, CopyId, CopyKind, Count, Days, HoldId, LineId, LoanId, Number, PatronId,
-    PatronKind, TitleId,
+    BranchId, Cents, CopyId, CopyKind, Count, DayNumber, Days, HoldId, LineId, LoanId, Number,
+    PatronId, PatronKind, TitleId,
 };
 pub use order::{Ordered, owner_number};
 pub use question::Question;

@@ -93,6 +93,9 @@ pub enum OfCopyKind {}
 /// A day of a period.
 pub enum OfDay {}
 
+/// A day, counted from 1970-01-01.
+pub enum OfCalendar {}
+
 /// A loan, a hold or a renewal, when only counted.
 pub enum OfCount {}
 
@@ -125,6 +128,9 @@ pub type CopyKind = Number<OfCopyKind>;
 
 /// A number of days: a loan period or a pick-up period.
 pub type Days = Number<OfDay>;
+
+/// The number of a day, counted from 1970-01-01. Unlike a `Day`, it can lie outside the calendar.
+pub type DayNumber = Number<OfCalendar>;
 
 /// The number of loans, holds or renewals allowed or left.
 pub type Count = Number<OfCount>;

@@ -4,7 +4,9 @@ ghost use Rattle.std.specs.Prelude.{◌≡◌, IfOk, string_bytes};
 ghost use Rattle.terms.specs.Texts.{request_text};
 ghost use Rattle.terms.specs.declared.command.Command.TheVariants.{Ask};
 
-use crate::number::{BranchId, CopyId, HoldId, LineId, LoanId, PatronId, TitleId};
+use crate::number::{
+    BranchId, CopyId, CopyKind, DayNumber, HoldId, LineId, LoanId, PatronId, PatronKind, TitleId,
+};
 use crate::text::Name;
 use calendar::{Day, Memory};
 use std::alloc::Global;
@@ -40,6 +42,18 @@ pub enum Question {
     FindPatrons { after: PatronId, text: Name },
     /// The titles that a text finds.
     FindTitles { after: TitleId, text: Name },
+    /// The branches, and how each works.
+    Branches { after: BranchId },
+    /// The single closed days of a branch that are still to come.
+    ClosedDays { branch: BranchId, after: DayNumber },
+    /// The kinds of patrons, and what each allows.
+    Kinds { after: PatronKind },
+    /// The circulation rules of a kind of patron.
+    Rules { kind: PatronKind, after: CopyKind },
+    /// The missing copies.
+    MissingCopies { after: CopyId },
+    /// The loans ever made of a copy.
+    Loans { copy: CopyId, after: LoanId },
 }
 
 /// Joins the words of a question with single spaces.
@@ -62,5 +76,11 @@ pub(crate) fn joined_question(alloc: Global, question: &Question) -> Result<Stri
         Question::Borrower { patron } => format!(in alloc; "borrower {patron}"),
         Question::FindPatrons { after, text } => format!(in alloc; "find-patrons {after} {text}"),
         Question::FindTitles { after, text } => format!(in alloc; "find-titles {after} {text}"),
+        Question::Branches { after } => format!(in alloc; "branches {after}"),
+        Question::ClosedDays { branch, after } => format!(in alloc; "closed-days {branch} {after}"),
+        Question::Kinds { after } => format!(in alloc; "kinds {after}"),
+        Question::Rules { kind, after } => format!(in alloc; "rules {kind} {after}"),
+        Question::MissingCopies { after } => format!(in alloc; "missing-copies {after}"),
+        Question::Loans { copy, after } => format!(in alloc; "loans {copy} {after}"),
     }
 }

@@ -188,3 +188,77 @@ pub(crate) fn find_titles(alloc: Global, values: &[&str]) -> Result<Command, Wor
     Ok(Command::Ask(Question::FindTitles { after, text }))
 }
 
+#[tactic(auto, unfolding(crate::specs::Texts::command_words))]
+pub(crate) fn branches(values: &[&str]) -> Result<Command, WordFault>
+    ensures read { IfOk result (IsReadAs (codes "branches") (texts values.now)) }
+    ensures refused { result ≡ Err Refused → IsNoCommand (codes "branches") (texts values.now) }
+{
+    let [after] = values else {
+        return Err(WordFault::NotUnderstood);
+    };
+    let after = BranchId::new(number(after)?);
+    Ok(Command::Ask(Question::Branches { after }))
+}
+
+#[tactic(auto, unfolding(crate::specs::Texts::command_words))]
+pub(crate) fn closed_days(values: &[&str]) -> Result<Command, WordFault>
+    ensures read { IfOk result (IsReadAs (codes "closed-days") (texts values.now)) }
+    ensures refused { result ≡ Err Refused → IsNoCommand (codes "closed-days") (texts values.now) }
+{
+    let [branch, after] = values else {
+        return Err(WordFault::NotUnderstood);
+    };
+    let branch = BranchId::new(number(branch)?);
+    let after = DayNumber::new(number(after)?);
+    Ok(Command::Ask(Question::ClosedDays { branch, after }))
+}
+
+#[tactic(auto, unfolding(crate::specs::Texts::command_words))]
+pub(crate) fn kinds(values: &[&str]) -> Result<Command, WordFault>
+    ensures read { IfOk result (IsReadAs (codes "kinds") (texts values.now)) }
+    ensures refused { result ≡ Err Refused → IsNoCommand (codes "kinds") (texts values.now) }
+{
+    let [after] = values else {
+        return Err(WordFault::NotUnderstood);
+    };
+    let after = PatronKind::new(number(after)?);
+    Ok(Command::Ask(Question::Kinds { after }))
+}
+
+#[tactic(auto, unfolding(crate::specs::Texts::command_words))]
+pub(crate) fn rules(values: &[&str]) -> Result<Command, WordFault>
+    ensures read { IfOk result (IsReadAs (codes "rules") (texts values.now)) }
+    ensures refused { result ≡ Err Refused → IsNoCommand (codes "rules") (texts values.now) }
+{
+    let [kind, after] = values else {
+        return Err(WordFault::NotUnderstood);
+    };
+    let kind = PatronKind::new(number(kind)?);
+    let after = CopyKind::new(number(after)?);
+    Ok(Command::Ask(Question::Rules { kind, after }))
+}
+
+#[tactic(auto, unfolding(crate::specs::Texts::command_words))]
+pub(crate) fn missing_copies(values: &[&str]) -> Result<Command, WordFault>
+    ensures read { IfOk result (IsReadAs (codes "missing-copies") (texts values.now)) }
+    ensures refused { result ≡ Err Refused → IsNoCommand (codes "missing-copies") (texts values.now) }
+{
+    let [after] = values else {
+        return Err(WordFault::NotUnderstood);
+    };
+    let after = CopyId::new(number(after)?);
+    Ok(Command::Ask(Question::MissingCopies { after }))
+}
+
+#[tactic(auto, unfolding(crate::specs::Texts::command_words))]
+pub(crate) fn loans(values: &[&str]) -> Result<Command, WordFault>
+    ensures read { IfOk result (IsReadAs (codes "loans") (texts values.now)) }
+    ensures refused { result ≡ Err Refused → IsNoCommand (codes "loans") (texts values.now) }
+{
+    let [copy, after] = values else {
+        return Err(WordFault::NotUnderstood);
+    };
+    let copy = CopyId::new(number(copy)?);
+    let after = LoanId::new(number(after)?);
+    Ok(Command::Ask(Question::Loans { copy, after }))
+}

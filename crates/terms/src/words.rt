@@ -587,6 +587,12 @@ pub fn read_command(alloc: Global, name: &str, values: &[&str]) -> Result<Comman
         "borrower" => borrower(values),
         "find-patrons" => find_patrons(alloc, values),
         "find-titles" => find_titles(alloc, values),
+        "branches" => branches(values),
+        "closed-days" => closed_days(values),
+        "kinds" => kinds(values),
+        "rules" => rules(values),
+        "missing-copies" => missing_copies(values),
+        "loans" => loans(values),
         _ => Err(WordFault::NotUnderstood),
     }
 }
