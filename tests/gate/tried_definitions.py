@@ -27,6 +27,7 @@ TRIED = [
     ("Refusals", "is_bad_amount", "(n == 0) ||", "(n == 1) ||", ROWS),
     ("Loans", "first_due", "today H + ", "suc (today H) + ", ROWS),
     ("Picture", "copy_columns", "home = r.home", "home = r.kind", ROWS),
+    ("Asking", "closed_days_list", "nat_lt (today H) d", "nat_le (today H) d", ROWS),
     ("Refusals", "kind_now", "debt = 0", "debt = 1", NOBODY),
     ("Places", "title_of_copy", "(copy_of H c)) 0", "(copy_of H c)) 1", NOBODY),
 ]

@@ -4,7 +4,7 @@ use Rattle.std.proofs.Common.{refl, sym, ◌∙◌, ap, ap₂, subst, arith, len
 use Rattle.std.specs.Prelude.{filter, Option, Some, None}
 use Rattle.std.proofs.lemmas.Bool.{eqb-true, and_parts, ltb-true, ltb-false, lt-ltb}
 use Rattle.terms.specs.declared.limits.TheConstants.{MOST_ROWS}
-use Rattle.model.specs.History.{History, numbers_to, copies, patrons, titles, loans, holds}
+use Rattle.model.specs.History.{History, numbers_to, singles_of, branches, kinds, ruled, copies, patrons, titles, loans, holds}
 use Rattle.model.specs.Accounts.{lines}
 use Rattle.model.proofs.Moves.{false-ne}
 use Rattle.model.specs.Places.{Place, Shelf, HoldShelf, Transit, place, state, line, is_begun, route}
@@ -161,6 +161,12 @@ lists-rise H = record {
   transits = λ b. rising-filter _ (rising (copies H)) (rising-rises (copies H));
   found_patrons = λ text. rising-rises (patrons H);
   found_titles = λ text. rising-rises (titles H);
+  branches = rising-rises (branches H);
+  closed_days = λ b. rising-filter _ (rising (singles_of H b)) (rising-rises (singles_of H b));
+  kinds = rising-rises (kinds H);
+  rules = λ k. rising-rises (ruled H k);
+  missing_copies = rising-filter _ (rising (copies H)) (rising-rises (copies H));
+  loans = λ c. rising-numbers _ (loans H);
 }
 
 -- ---- asking again and again

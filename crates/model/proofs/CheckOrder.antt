@@ -35,6 +35,12 @@ asked-order H question.Today = refl
 asked-order H (question.Borrower p) = refl
 asked-order H (question.FindPatrons after text) = refl
 asked-order H (question.FindTitles after text) = refl
+asked-order H (question.Branches after) = refl
+asked-order H (question.ClosedDays b after) = refl
+asked-order H (question.Kinds after) = refl
+asked-order H (question.Rules k after) = refl
+asked-order H (question.MissingCopies after) = refl
+asked-order H (question.Loans c after) = refl
 
 order : (H : History) (o : Owner) (c : Command) → map told (checks H o c) ≡ refusals_in_order c
 order H o (BeginDay d) = refl

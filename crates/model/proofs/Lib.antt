@@ -6,6 +6,8 @@ mod RowsHolds
 mod RowsReports
 mod RowsAsking
 mod RowsSearching
+mod RowsSettings
+mod RowsCopies
 mod RowsCorrections
 mod RowsClosedDays
 mod RowsChecks
@@ -64,6 +66,7 @@ pub mod AskedRows
 pub mod Turns
 pub mod Limits
 pub mod OneEachLaw
+pub mod Settings
 pub mod ShownRows
 pub mod StandingLimits
 pub mod ChargedLoans

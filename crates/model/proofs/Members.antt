@@ -44,6 +44,20 @@ filter-has test h (x ∷ xs) p e = go (λ q. filter-has test h xs p q) (x == h) 
     go ih false q true r s = or-right (x == h) _ (ih s)
     go ih false q false r s = ih s
 
+-- A member of a filtered list is in the list.
+pub filter-among : (test : ℕ → Bool) (h : ℕ) (xs : List ℕ) → has (filter test xs) h ≡ true → has xs h ≡ true
+filter-among test h [] e = e
+filter-among test h (x ∷ xs) e = go (filter-among test h xs) (test x) e
+  where
+    go : (has (filter test xs) h ≡ true → has xs h ≡ true) → (b : Bool) → has (cond b (x ∷ filter test xs) (filter test xs)) h ≡ true
+        → ((x == h) || has xs h) ≡ true
+    go ih true r = both (x == h) r
+      where
+        both : (y : Bool) → (y || has (filter test xs) h) ≡ true → (y || has xs h) ≡ true
+        both true q = refl
+        both false q = ih q
+    go ih false r = or-right (x == h) _ (ih r)
+
 -- Each number from 1 to n is among them.
 pub numbers-has : (n h : ℕ) → 1 ≤ h → h ≤ n → has (numbers_to n) h ≡ true
 numbers-has zero h low high = let never : ⊥ = omega (arith, low, high) in absurd never

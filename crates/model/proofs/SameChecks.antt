@@ -149,6 +149,12 @@ module _ (f : ℕ → ℕ) (new : IsRenaming f) (K H : History) (same : IsSame f
   asked-same (question.Borrower p) = λ i. (UnknownPatron, not (is_some (same.patron_facts p i))) ∷ []
   asked-same (question.FindPatrons after text) = refl
   asked-same (question.FindTitles after text) = refl
+  asked-same (question.Branches after) = refl
+  asked-same (question.ClosedDays b after) = λ i. (UnknownBranch, not (is_some (same.branch_facts b i))) ∷ []
+  asked-same (question.Kinds after) = refl
+  asked-same (question.Rules k after) = λ i. (UnknownKind, is_none (same.kind_facts k i)) ∷ []
+  asked-same (question.MissingCopies after) = refl
+  asked-same (question.Loans c after) = λ i. (UnknownCopy, not (is_some (same.copy_facts c i))) ∷ []
 
   settled-same : (p n : ℕ) → ◌≡◌ {A = List Check}
       ((UnknownPatron, not (has_patron K (f p))) ∷ (BadAmount, is_bad_amount K (sight K) (f p) n) ∷ (NumbersUsedUp, lacks_lines K (sight K) 1) ∷ [])

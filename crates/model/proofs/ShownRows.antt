@@ -1,7 +1,7 @@
 -- Each list of the desk's questions shows exactly the rows that pass its test.
 use Rattle.std.proofs.Common.{◌≡◌, ℕ, zero, suc, ◌+◌, ◌-◌, ◌<◌, ◌≤◌, ◌==◌, Bool, true, false, cond, ◌&&◌, ◌||◌, List, [], ◌∷◌, ◌++◌}
 use Rattle.std.proofs.Common.{refl, sym, ◌∙◌, ap, ap₂, subst, arith, length, take, nat_lt}
-use Rattle.std.specs.Prelude.{Option, Some, None, is_some, is_none, filter, option_map, option_and_then, unwrap_or, sum_by}
+use Rattle.std.specs.Prelude.{Option, Some, None, is_some, is_none, filter, option_map, option_and_then, unwrap_or, sum_by, codes, decimal}
 use Rattle.std.specs.Option.{option_or}
 use Rattle.std.specs.List.{list_any}
 use Rattle.std.proofs.lemmas.Bool.{eqb-true, eq-eqb, and_parts, ltb-true, lt-ltb}
@@ -9,6 +9,7 @@ use Rattle.std.proofs.lemmas.List.Elements.{filter-append}
 use Rattle.std.proofs.lemmas.List.Sums.{sum_by-append}
 use Rattle.terms.specs.declared.command.Command.{Command}
 use Rattle.terms.specs.declared.command.Command.TheVariants.{Acquire, AmendCopy, Rehome}
+use Rattle.terms.specs.declared.row.Condition.TheVariants.{Missing}
 use Rattle.terms.specs.declared.row.CopyRow.{CopyRow}
 use Rattle.terms.specs.declared.row.HoldRow.{HoldRow}
 use Rattle.terms.specs.declared.row.HoldState.{HoldState}
@@ -17,26 +18,28 @@ use Rattle.terms.specs.declared.row.LineRow.{LineRow}
 use Rattle.terms.specs.declared.row.LoanRow.{LoanRow}
 use Rattle.terms.specs.declared.row.PatronRow.{PatronRow}
 use Rattle.terms.specs.declared.row.Sort.{Sort}
+use Rattle.terms.specs.declared.row.TitleRow.{TitleRow}
 use Rattle.terms.specs.declared.row.TransitRow.{TransitRow}
 use Rattle.model.specs.History.{History, numbers_to, today, has_begun, CopyFacts, copy_of, copy_after, copies, copies_after, PatronFacts, with_price, with_home}
-use Rattle.model.specs.History.{patron_of, patrons, loans, HoldFacts, hold_of, holds}
+use Rattle.model.specs.History.{patron_of, title_of, patrons, loans, HoldFacts, hold_of, holds}
 use Rattle.model.specs.Places.{Place, Nowhere, Shelf, HoldShelf, Transit, Loan, MissingCopy, WithdrawnCopy, place, state, line}
 use Rattle.model.specs.Places.{is_waiting, patron_of_hold, is_ready, is_bound_for, is_coming, title_of_copy, title_of_hold, goal_of, home_of}
-use Rattle.model.specs.Loans.{is_loan_of_patron, open_loans, loan_of, due, ended, is_open_loan}
+use Rattle.model.specs.Loans.{LoanFacts, is_loan_of_copy, is_loan_of_patron, open_loans, loan_of, due, ended, is_open_loan}
 use Rattle.model.specs.Accounts.{Line, lines, nth_line, owed, charges, credits}
-use Rattle.model.specs.Asking.{rising, first_of, is_first, is_shelf_of, is_bound_to, pulled_for, is_line_of}
+use Rattle.model.specs.Asking.{rising, first_of, is_first, is_shelf_of, is_bound_to, pulled_for, is_line_of, missing_copies_list, loans_list}
 use Rattle.model.specs.AskingLaws.{AreRising}
 use Rattle.model.specs.Reports.{lending_branch, is_sort, till_sum}
-use Rattle.model.specs.Picture.{picture, transit_at, copy_columns, loan_columns, hold_columns, line_columns, patron_columns}
+use Rattle.model.specs.Pages.{spaced, title_text}
+use Rattle.model.specs.Picture.{picture, condition_at, transit_at, copy_columns, loan_columns, hold_columns, line_columns, patron_columns}
 use Rattle.model.specs.Invariant.{Invariant}
 use Rattle.model.specs.Requests.{IsLegal}
 use Rattle.model.specs.Laws.{stands_in_line, is_active_state}
-use Rattle.model.specs.RowLaws.{IsOpenLoanOf, IsActiveHoldOf}
-use Rattle.model.specs.Refusals.{is_active, active_holds}
+use Rattle.model.specs.RowLaws.{IsOpenLoanOf, IsActiveHoldOf, IsMissing, IsLoanOfCopy, missing_copy_words, loan_row_words}
+use Rattle.model.specs.Refusals.{is_active, is_missing, active_holds}
 use Rattle.model.specs.RowLaws.{IsCopyOf, IsInLineOf, IsLineOf, IsOwing, IsOverdueAt, IsReadyAt, IsBoundTo, IsFirstInLine, IsOnShelf}
 use Rattle.model.specs.RowLaws.{IsToPull, if_row, line_rows_below, sum_of_rows, ShowsRows, RowsAreShown}
 use Rattle.model.proofs.Amending.{amended-is_some}
-use Rattle.model.proofs.Members.{has, filter-passes, filter-has, numbers-has, or-left, or-right}
+use Rattle.model.proofs.Members.{has, filter-among, filter-passes, filter-has, numbers-has, or-left, or-right}
 use Rattle.model.proofs.Bindings.{listed, clash, ready-is}
 use Rattle.model.proofs.Line.{in-line, line-in}
 use Rattle.model.proofs.Debts.{rising-has, enrolled-has}
@@ -46,21 +49,9 @@ use Rattle.model.proofs.ClaimsLaw.{map-some, transit-place, hold-facts}
 use Rattle.model.proofs.Invariants.{legal-Invariant}
 use Rattle.model.proofs.SettingRanges.{there}
 use Rattle.model.proofs.OneEachLaw.{active-test, and-true}
+use Rattle.model.proofs.Settings.{told-of, branches-shown, branch-told, closed-days-shown, kinds-shown, kind-told, rules-shown, rule-told}
 
 -- ---- members
-
-filter-among : (test : ℕ → Bool) (h : ℕ) (xs : List ℕ) → has (filter test xs) h ≡ true → has xs h ≡ true
-filter-among test h [] e = e
-filter-among test h (x ∷ xs) e = go (filter-among test h xs) (test x) e
-  where
-    go : (has (filter test xs) h ≡ true → has xs h ≡ true) → (b : Bool) → has (cond b (x ∷ filter test xs) (filter test xs)) h ≡ true
-        → ((x == h) || has xs h) ≡ true
-    go ih true r = both (x == h) r
-      where
-        both : (y : Bool) → (y || has (filter test xs) h) ≡ true → (y || has xs h) ≡ true
-        both true q = refl
-        both false q = ih q
-    go ih false r = or-right (x == h) _ (ih r)
 
 pub any-some : (test : ℕ → Bool) (xs : List ℕ) → list_any test xs ≡ true → (c : ℕ) × (test c ≡ true)
 any-some test [] e = let never : ⊥ = cc in absurd never
@@ -210,6 +201,68 @@ module _ (H : History) (legal : IsLegal H) where
       let r = somewhere c _ at.0 (λ e. let never : ⊥ = cc in never) in
       let test : is_bound_to b (place H c) ≡ true = ap (is_bound_to b) at.0 ∙ eq-eqb _ _ w.2 in
       filter-has (λ d. is_bound_to b (place H d)) c (rising (copies H)) test (rising-has (copies H) c ∙ acquired-listed H c r.0 r.1)
+
+  -- ---- missing copies
+
+  missing-place : (p : Place) → is_missing p ≡ true → p ≡ MissingCopy
+  missing-place MissingCopy e = refl
+  missing-place Nowhere e = let never : ⊥ = cc in absurd never
+  missing-place (Shelf n) e = let never : ⊥ = cc in absurd never
+  missing-place (HoldShelf h) e = let never : ⊥ = cc in absurd never
+  missing-place (Transit n h) e = let never : ⊥ = cc in absurd never
+  missing-place (Loan l) e = let never : ⊥ = cc in absurd never
+  missing-place WithdrawnCopy e = let never : ⊥ = cc in absurd never
+
+  missing-condition : (p : Place) → condition_at p ≡ Missing → is_missing p ≡ true
+  missing-condition MissingCopy e = refl
+  missing-condition Nowhere e = let never : ⊥ = cc in absurd never
+  missing-condition (Shelf n) e = let never : ⊥ = cc in absurd never
+  missing-condition (HoldShelf h) e = let never : ⊥ = cc in absurd never
+  missing-condition (Transit n h) e = let never : ⊥ = cc in absurd never
+  missing-condition (Loan l) e = let never : ⊥ = cc in absurd never
+  missing-condition WithdrawnCopy e = let never : ⊥ = cc in absurd never
+
+  missing-shown : (c : ℕ) → has (filter (λ d. is_missing (place H d)) (rising (copies H))) c ≡ true → IsMissing (picture H) c
+  missing-shown c e =
+      let at = missing-place (place H c) (filter-passes (λ d. is_missing (place H d)) c (rising (copies H)) e) in
+      let r = somewhere c MissingCopy at (λ q. let never : ⊥ = cc in never) in
+      (copy_columns H c r.0, ap (option_map (copy_columns H c)) r.1, ap condition_at at)
+
+  missing-back : (c : ℕ) → IsMissing (picture H) c → has (filter (λ d. is_missing (place H d)) (rising (copies H))) c ≡ true
+  missing-back c w =
+      let r = map-some (copy_columns H c) (copy_of H c) w.0 w.1 in
+      let test : is_missing (place H c) ≡ true = missing-condition (place H c) (ap (λ (x : CopyRow). x.condition) r.2 ∙ w.2) in
+      filter-has (λ d. is_missing (place H d)) c (rising (copies H)) test (rising-has (copies H) c ∙ acquired-listed H c r.0 r.1)
+
+  missing-told : (c : ℕ) (r : CopyRow) (x : TitleRow) → (picture H).copies c ≡ Some r → (picture H).titles r.title ≡ Some x
+      → (missing_copies_list H).row c ≡ missing_copy_words r x
+  missing-told c r x row title =
+      let f = map-some (copy_columns H c) (copy_of H c) r row in
+      let home : home_of H c ≡ r.home = ap (λ o. unwrap_or (option_map (λ y. y.home) o) 0) f.1 ∙ ap (λ (y : CopyRow). y.home) f.2 in
+      let titled : title_of_copy H c ≡ r.title = ap (λ o. unwrap_or (option_map (λ y. y.title) o) 0) f.1 ∙ ap (λ (y : CopyRow). y.title) f.2 in
+      let same : c ≡ r.copy = ap (λ (y : CopyRow). y.copy) f.2 in
+      let t = map-some (λ y. record { title = r.title; text = y }) (title_of H r.title) x title in
+      let number : r.title ≡ x.title = ap (λ (y : TitleRow). y.title) t.2 in
+      let text : title_text H r.title ≡ x.text = ap (λ o. unwrap_or o []) t.1 ∙ ap (λ (y : TitleRow). y.text) t.2 in
+      (λ i. spaced (codes "copy" ∷ decimal (same i) ∷ codes "home" ∷ decimal (home i) ∷ codes "title" ∷ decimal (titled i) ∷ title_text H (titled i) ∷ []))
+      ∙ (λ i. spaced (codes "copy" ∷ decimal r.copy ∷ codes "home" ∷ decimal r.home ∷ codes "title" ∷ decimal (number i) ∷ text i ∷ []))
+
+  -- ---- the loans of a copy
+
+  loan-of-copy : (c l : ℕ) → is_loan_of_copy H l c ≡ true → IsLoanOfCopy (picture H) c l
+  loan-of-copy c l e = go (loan_of H l) refl e
+    where
+      go : (o : Option LoanFacts) → loan_of H l ≡ o → unwrap_or (option_map (λ x. x.copy == c) o) false ≡ true → IsLoanOfCopy (picture H) c l
+      go (Some f) at q = (loan_columns H l f, ap (option_map (loan_columns H l)) at, eqb-true f.copy c q)
+      go None at q = let never : ⊥ = cc in absurd never
+
+  copy-of-loan : (c l : ℕ) → IsLoanOfCopy (picture H) c l → has (filter (λ k. is_loan_of_copy H k c) (numbers_to (loans H))) l ≡ true
+  copy-of-loan c l w =
+      let r = map-some (loan_columns H l) (loan_of H l) w.0 w.1 in
+      let m = inv.made_loan l r.0 r.1 in
+      let own : is_loan_of_copy H l c ≡ true = ap (λ o. unwrap_or (option_map (λ x. x.copy == c) o) false) r.1
+      ∙ eq-eqb _ _ (ap (λ (x : LoanRow). x.copy) r.2 ∙ w.2) in
+      filter-has (λ k. is_loan_of_copy H k c) l (numbers_to (loans H)) own (numbers-has (loans H) l m.0 m.1)
 
   -- ---- the queue
 
@@ -553,6 +606,17 @@ module _ (H : History) (legal : IsLegal H) where
     page_loans = λ p l. ((λ e. page-loan p l (filter-passes (λ k. is_loan_of_patron H p k && is_open_loan H k) l (numbers_to (loans H)) e)), loan-page p l);
     page_holds = λ p h. ((λ e. page-hold p h (filter-passes (λ g. (patron_of_hold H g == p) && is_active H g) h (numbers_to (holds H)) e)), hold-page p h);
     till = till-shown;
+    branches = branches-shown H;
+    branch_rows = branch-told H;
+    closed_days = closed-days-shown H;
+    kinds = kinds-shown H;
+    kind_rows = kind-told H;
+    rules = rules-shown H;
+    rule_rows = rule-told H;
+    missing_copies = λ c. (missing-shown c, missing-back c);
+    missing_copy_rows = missing-told;
+    loans = λ c l. ((λ e. loan-of-copy c l (filter-passes (λ k. is_loan_of_copy H k c) l (numbers_to (loans H)) e)), copy-of-loan c l);
+    loan_rows = λ c l r there. told-of (loan_columns H l) loan_row_words (loan_of H l) r there;
   }
 
 pub rows-are-shown : RowsAreShown

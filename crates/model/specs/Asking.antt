@@ -9,12 +9,15 @@ use Rattle.terms.specs.declared.question.Question.{Question}
 use Rattle.terms.specs.declared.question.Question.TheVariants as question
 use Rattle.terms.specs.declared.row.Sort.{Sort}
 use Rattle.terms.specs.declared.row.Sort.TheVariants.{Fine, Price, Payment, Waiver}
-use Rattle.model.specs.History.{History, numbers_to, today, copy_of, patron_of, copies, patrons, titles, holds}
+use Rattle.terms.specs.Texts.{mask_text}
+use Rattle.model.specs.History.{History, numbers_to, today, week_of, singles_of, branch_of, kind_of, rule_of, copy_of, patron_of}
+use Rattle.model.specs.History.{branches, kinds, ruled, copies, patrons, titles, loans, holds}
 use Rattle.model.specs.Places.{Place, Nowhere, Shelf, HoldShelf, Transit, Loan, MissingCopy, WithdrawnCopy, place, line, limit}
 use Rattle.model.specs.Places.{title_of_copy, home_of, title_of_hold, patron_of_hold, goal_of, first_day_of}
-use Rattle.model.specs.Loans.{due, title_of_loan}
+use Rattle.model.specs.Loans.{loan_of, is_loan_of_copy, due, ended, title_of_loan}
 use Rattle.model.specs.Accounts.{lines, nth_line, borrower, price_of, owed}
 use Rattle.model.specs.Pages.{spaced, name_of, title_text, title_words, patron_line}
+use Rattle.model.specs.Refusals.{is_missing}
 use Rattle.model.specs.Reports.{overdue_head, overdue_loans, overdue_line, shelf_head, ready_holds, shelf_line, till_rows}
 
 -- ---- lists
@@ -139,6 +142,11 @@ abbrev pub from_words : Option ℕ → List (List ℕ)
 from_words None = []
 from_words (Some day) = codes "from" ∷ day_text day ∷ []
 
+-- The day a loan ended, if it has.
+abbrev pub ended_words : Option ℕ → List (List ℕ)
+ended_words None = []
+ended_words (Some day) = codes "ended" ∷ day_text day ∷ []
+
 -- The hold that a copy travels for, if any.
 abbrev pub for_words : Option ℕ → List (List ℕ)
 for_words None = []
@@ -262,6 +270,23 @@ module _ (H : History) where
     row = λ c. spaced (codes "copy" ∷ decimal c ∷ for_words (travels_for (place H c)) ++ title_words H (title_of_copy H c));
   }
 
+  -- The missing copies, each with its home.
+  abbrev pub missing_copies_list : Listing
+  missing_copies_list = record {
+    head = [];
+    numbers = filter (λ c. is_missing (place H c)) (rising (copies H));
+    row = λ c. spaced (codes "copy" ∷ decimal c ∷ codes "home" ∷ decimal (home_of H c) ∷ title_words H (title_of_copy H c));
+  }
+
+  -- The loans ever made of a copy: whose each is, when it was made, when it is due, and when it ended.
+  abbrev pub loans_list : ℕ → Listing
+  loans_list c = record {
+    head = [];
+    numbers = filter (λ l. is_loan_of_copy H l c) (numbers_to (loans H));
+    row = λ l. unwrap_or (option_map (λ r. spaced (codes "loan" ∷ decimal l ∷ codes "patron" ∷ decimal r.patron ∷ codes "made" ∷ day_text r.made
+        ∷ codes "due" ∷ day_text (due H l) ∷ ended_words (ended H l))) (loan_of H l)) [];
+  }
+
   -- The kind of a patron.
   abbrev pub kind_of_patron : ℕ → ℕ
   kind_of_patron p = unwrap_or (option_map (λ r. r.kind) (patron_of H p)) 0
@@ -284,6 +309,43 @@ module _ (H : History) where
     finds = λ t. finds text (title_text H t);
   }
 
+-- ---- settings
+
+module _ (H : History) where
+  -- A branch: its pick-up period, its closed weekdays and its name.
+  abbrev pub branch_line : ℕ → List ℕ
+  branch_line b = unwrap_or (option_map (λ r. spaced (codes "branch" ∷ decimal b ∷ codes "pickup" ∷ decimal r.pickup
+      ∷ codes "week" ∷ mask_text (week_of H b) ∷ codes "name" ∷ r.name ∷ [])) (branch_of H b)) []
+
+  abbrev pub branches_list : Listing
+  branches_list = record { head = []; numbers = rising (branches H); row = branch_line }
+
+  -- The single closed days of a branch that are still to come, by day.
+  abbrev pub closed_days_list : ℕ → Listing
+  closed_days_list b = record {
+    head = [];
+    numbers = filter (λ d. nat_lt (today H) d) (rising (singles_of H b));
+    row = λ d. spaced (codes "day" ∷ day_text d ∷ []);
+  }
+
+  -- A patron kind: how many loans and holds, and how much debt.
+  abbrev pub kind_line : ℕ → List ℕ
+  kind_line k = unwrap_or (option_map (λ r. spaced (codes "kind" ∷ decimal k ∷ codes "loans" ∷ decimal r.loans
+      ∷ codes "holds" ∷ decimal r.holds ∷ codes "debt" ∷ decimal r.debt ∷ [])) (kind_of H k)) []
+
+  abbrev pub kinds_list : Listing
+  kinds_list = record { head = []; numbers = rising (kinds H); row = kind_line }
+
+  -- The rule of a patron kind and a copy kind.
+  abbrev pub rule_line : ℕ → ℕ → List ℕ
+  rule_line k c = unwrap_or (option_map (λ r. spaced (codes "rule" ∷ decimal k ∷ decimal c ∷ codes "period" ∷ decimal r.period
+      ∷ codes "renewals" ∷ decimal r.renewals ∷ codes "rate" ∷ decimal r.rate ∷ codes "cap" ∷ decimal r.cap
+      ∷ codes "grace" ∷ decimal r.grace ∷ [])) (rule_of H k c)) []
+
+  -- The rules of a patron kind, by copy kind.
+  abbrev pub rules_list : ℕ → Listing
+  rules_list k = record { head = []; numbers = rising (ruled H k); row = rule_line k }
+
 -- What a question shows after a history.
 abbrev pub asked : History → Question → List ℕ
 asked H (question.Copy c) = join_with_byte 10 (copy_line H c ∷ place_line H (place H c) ∷ [])
@@ -300,3 +362,9 @@ asked H question.Today = spaced (codes "today" ∷ day_text (today H) ∷ [])
 asked H (question.Borrower p) = join_with_byte 10 (borrower_lines H p)
 asked H (question.FindPatrons after text) = searched (patrons_search H text) after
 asked H (question.FindTitles after text) = searched (titles_search H text) after
+asked H (question.Branches after) = listed (branches_list H) after
+asked H (question.ClosedDays b after) = listed (closed_days_list H b) after
+asked H (question.Kinds after) = listed (kinds_list H) after
+asked H (question.Rules k after) = listed (rules_list H k) after
+asked H (question.MissingCopies after) = listed (missing_copies_list H) after
+asked H (question.Loans c after) = listed (loans_list H c) after

@@ -8,6 +8,7 @@ use Rattle.finding.specs.Finding.{finds}
 use Rattle.model.specs.Asking.{Search, found_from, reached_from, unseen_from, patrons_search, titles_search}
 use Rattle.model.specs.Pages.{name_of, title_text}
 use Rattle.model.specs.Asking.{copies_list, queue_list, account_list, debts_list, overdue_list, shelf_list, pulls_list, transits_list}
+use Rattle.model.specs.Asking.{branches_list, closed_days_list, kinds_list, rules_list, missing_copies_list, loans_list}
 use Rattle.model.specs.Invariant.{Serves}
 use Rattle.model.specs.Accounts.{lines, nth_line, account, charges, credits}
 use Rattle.model.specs.Picture.{picture}
@@ -121,6 +122,12 @@ pub record HasRisingLists (H : History) : Type 0 where
   pub transits : (b : ℕ) → AreRising (transits_list H b).numbers
   pub found_patrons : (text : List ℕ) → AreRising (patrons_search H text).all.numbers
   pub found_titles : (text : List ℕ) → AreRising (titles_search H text).all.numbers
+  pub branches : AreRising (branches_list H).numbers
+  pub closed_days : (b : ℕ) → AreRising (closed_days_list H b).numbers
+  pub kinds : AreRising (kinds_list H).numbers
+  pub rules : (k : ℕ) → AreRising (rules_list H k).numbers
+  pub missing_copies : AreRising (missing_copies_list H).numbers
+  pub loans : (c : ℕ) → AreRising (loans_list H c).numbers
 
 abbrev pub ListsRise : Type 0
 ListsRise = (H : History) → HasRisingLists H

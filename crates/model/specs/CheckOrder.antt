@@ -31,6 +31,12 @@ refusals_asked question.Today = []
 refusals_asked (question.Borrower p) = 11 ∷ []
 refusals_asked (question.FindPatrons after text) = []
 refusals_asked (question.FindTitles after text) = []
+refusals_asked (question.Branches after) = []
+refusals_asked (question.ClosedDays b after) = 10 ∷ []
+refusals_asked (question.Kinds after) = []
+refusals_asked (question.Rules k after) = 17 ∷ []
+refusals_asked (question.MissingCopies after) = []
+refusals_asked (question.Loans c after) = 13 ∷ []
 
 -- The numbers of the refusals that a command can get, in the order of their checks.
 abbrev pub refusals_in_order : Command → List ℕ

@@ -140,6 +140,36 @@ abbrev pub rule_of : History → ℕ → ℕ → Option Terms
 rule_of [] k c = None
 rule_of (e ∷ H) k c = rule_after e.command k c (rule_of H k c)
 
+-- A branch command adds its number to the list.
+abbrev pub branches_after : Command → List ℕ → List ℕ
+branches_after (Branch n pickup name) before = n ∷ before
+branches_after _ before = before
+
+-- The numbers of all branches, some more than once.
+abbrev pub branches : History → List ℕ
+branches [] = []
+branches (e ∷ H) = branches_after e.command (branches H)
+
+-- A kind command adds its number to the list.
+abbrev pub kinds_after : Command → List ℕ → List ℕ
+kinds_after (Kind n loans holds debt) before = n ∷ before
+kinds_after _ before = before
+
+-- The numbers of all patron kinds, some more than once.
+abbrev pub kinds : History → List ℕ
+kinds [] = []
+kinds (e ∷ H) = kinds_after e.command (kinds H)
+
+-- A rule command of the patron kind adds its copy kind to the list.
+abbrev pub ruled_after : Command → ℕ → List ℕ → List ℕ
+ruled_after (Rule n m period renewals rate cap) k before = if n == k then m ∷ before else before
+ruled_after _ k before = before
+
+-- The copy kinds that a patron kind has rules for, some more than once.
+abbrev pub ruled : History → ℕ → List ℕ
+ruled [] k = []
+ruled (e ∷ H) k = ruled_after e.command k (ruled H k)
+
 -- The patron with this card key.
 abbrev pub with_card_key : List ℕ → PatronFacts → PatronFacts
 with_card_key card_key r = record r { card_key = card_key }

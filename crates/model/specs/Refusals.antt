@@ -207,6 +207,12 @@ checks_asked H question.Today = []
 checks_asked H (question.Borrower p) = (UnknownPatron, not (has_patron H p)) ∷ []
 checks_asked H (question.FindPatrons after text) = []
 checks_asked H (question.FindTitles after text) = []
+checks_asked H (question.Branches after) = []
+checks_asked H (question.ClosedDays b after) = (UnknownBranch, not (has_branch H b)) ∷ []
+checks_asked H (question.Kinds after) = []
+checks_asked H (question.Rules k after) = (UnknownKind, is_none (kind_of H k)) ∷ []
+checks_asked H (question.MissingCopies after) = []
+checks_asked H (question.Loans c after) = (UnknownCopy, not (has_copy H c)) ∷ []
 
 -- The checks of a command, in order, given the sight: each with its refusal, and whether it fails.
 abbrev pub checks_by : History → Sight → Owner → Command → List Check

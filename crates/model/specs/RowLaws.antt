@@ -1,5 +1,11 @@
 -- Which rows of the tables each list of the desk's questions shows.
-use Rattle.std.specs.Prelude.{◌≡◌, ℕ, zero, suc, ◌<◌, ◌≤◌, ◌==◌, ◌↔◌, true, ◌&&◌, List, [], ◌∷◌, ◌++◌, filter, sum_by, Option, Some, None}
+use Rattle.std.specs.Prelude.{◌≡◌, ℕ, zero, suc, ◌<◌, ◌≤◌, ◌==◌, ◌↔◌, true, ◌&&◌, List, [], ◌∷◌, ◌++◌, filter, sum_by, Option, Some, None, codes, decimal}
+use Rattle.calendar.specs.Days.{day_text}
+use Rattle.terms.specs.Texts.{mask_text}
+use Rattle.terms.specs.declared.row.BranchRow.{BranchRow}
+use Rattle.terms.specs.declared.row.KindRow.{KindRow}
+use Rattle.terms.specs.declared.row.RuleRow.{RuleRow}
+use Rattle.terms.specs.declared.row.Condition.TheVariants.{Missing}
 use Rattle.terms.specs.declared.row.CopyRow.{CopyRow}
 use Rattle.terms.specs.declared.row.HoldRow.{HoldRow}
 use Rattle.terms.specs.declared.row.HoldState.TheVariants.{Waiting, Ready}
@@ -7,11 +13,14 @@ use Rattle.terms.specs.declared.row.LineRow.{LineRow}
 use Rattle.terms.specs.declared.row.LoanRow.{LoanRow}
 use Rattle.terms.specs.declared.row.PatronRow.{PatronRow}
 use Rattle.terms.specs.declared.row.Sort.{Sort}
+use Rattle.terms.specs.declared.row.TitleRow.{TitleRow}
 use Rattle.terms.specs.declared.row.TransitRow.{TransitRow}
 use Rattle.model.specs.History.{History, has_begun}
 use Rattle.model.specs.Places.{Place}
 use Rattle.model.specs.Asking.{pulled_for, copies_list, queue_list, account_list, debts_list, overdue_list, shelf_list, pulls_list, transits_list}
+use Rattle.model.specs.Asking.{branches_list, closed_days_list, kinds_list, rules_list, missing_copies_list, loans_list, ended_words}
 use Rattle.model.specs.AskingLaws.{has_number}
+use Rattle.model.specs.Pages.{spaced}
 use Rattle.model.specs.Reports.{is_sort, till_sum}
 use Rattle.model.specs.Loans.{open_loans}
 use Rattle.model.specs.Refusals.{active_holds}
@@ -19,6 +28,29 @@ use Rattle.model.specs.Laws.{is_active_state}
 use Rattle.model.specs.Picture.{Picture, picture}
 use Rattle.model.specs.Claims.{Claims}
 use Rattle.model.specs.Requests.{IsLegal}
+
+-- ---- what is told of a row of settings
+
+abbrev pub branch_row_words : BranchRow → List ℕ
+branch_row_words r = spaced (codes "branch" ∷ decimal r.branch ∷ codes "pickup" ∷ decimal r.pickup ∷ codes "week" ∷ mask_text r.week
+    ∷ codes "name" ∷ r.name ∷ [])
+
+abbrev pub kind_row_words : KindRow → List ℕ
+kind_row_words r = spaced (codes "kind" ∷ decimal r.kind ∷ codes "loans" ∷ decimal r.loans ∷ codes "holds" ∷ decimal r.holds
+    ∷ codes "debt" ∷ decimal r.debt ∷ [])
+
+abbrev pub rule_row_words : RuleRow → List ℕ
+rule_row_words r = spaced (codes "rule" ∷ decimal r.kind ∷ decimal r.copy_kind ∷ codes "period" ∷ decimal r.period ∷ codes "renewals" ∷ decimal r.renewals
+    ∷ codes "rate" ∷ decimal r.rate ∷ codes "cap" ∷ decimal r.cap ∷ codes "grace" ∷ decimal r.grace ∷ [])
+
+-- ---- what is told of a missing copy and its title, and of a loan
+
+abbrev pub missing_copy_words : CopyRow → TitleRow → List ℕ
+missing_copy_words r x = spaced (codes "copy" ∷ decimal r.copy ∷ codes "home" ∷ decimal r.home ∷ codes "title" ∷ decimal x.title ∷ x.text ∷ [])
+
+abbrev pub loan_row_words : LoanRow → List ℕ
+loan_row_words r = spaced (codes "loan" ∷ decimal r.loan ∷ codes "patron" ∷ decimal r.patron ∷ codes "made" ∷ day_text r.made ∷ codes "due" ∷ day_text r.due
+    ∷ ended_words r.ended)
 
 module _ (T : Picture) where
   -- ---- single rows
@@ -65,6 +97,14 @@ module _ (T : Picture) where
   abbrev pub IsBoundTo : ℕ → ℕ → Type 0
   IsBoundTo b c = (x : TransitRow) × (T.transits c ≡ Some x) × (x.goal ≡ b)
 
+  -- The copy has a row that says that it is missing.
+  abbrev pub IsMissing : ℕ → Type 0
+  IsMissing c = (r : CopyRow) × (T.copies c ≡ Some r) × (r.condition ≡ Missing)
+
+  -- The loan has a row of the copy, open or ended.
+  abbrev pub IsLoanOfCopy : ℕ → ℕ → Type 0
+  IsLoanOfCopy c l = (r : LoanRow) × (T.loans l ≡ Some r) × (r.copy ≡ c)
+
   -- ---- copies to pull
 
   -- The hold is the first in line of those of its title.
@@ -106,7 +146,7 @@ module _ (T : Picture) where
 
 -- Each list has exactly the numbers of the rows that pass its test, a page those of the patron's open loans
 -- and active holds, the copy shown with a hold to pull for is the one to pull, and the till's sums are those
--- of the day's rows.
+-- of the day's rows. Of a row of settings, a missing copy or a loan its columns are told, as they are today.
 pub record ShowsRows (H : History) (T : Picture) : Type 0 where
   pub copies : (t c : ℕ) → has_number (copies_list H t).numbers c ↔ IsCopyOf T t c
   pub queue : (t h : ℕ) → has_number (queue_list H t).numbers h ↔ IsInLineOf T t h
@@ -120,6 +160,18 @@ pub record ShowsRows (H : History) (T : Picture) : Type 0 where
   pub page_loans : (p l : ℕ) → has_number (open_loans H p) l ↔ IsOpenLoanOf T p l
   pub page_holds : (p h : ℕ) → has_number (active_holds H p) h ↔ IsActiveHoldOf T p h
   pub till : (d : ℕ) (s : Sort) → till_sum H d s ≡ sum_of_rows T d s
+  pub branches : (b : ℕ) → has_number (branches_list H).numbers b ↔ ((r : BranchRow) × (T.branches b ≡ Some r))
+  pub branch_rows : (b : ℕ) (r : BranchRow) → T.branches b ≡ Some r → (branches_list H).row b ≡ branch_row_words r
+  pub closed_days : (b d : ℕ) → has_number (closed_days_list H b).numbers d ↔ ((T.closed_days b d ≡ true) × (T.meta.today < d))
+  pub kinds : (k : ℕ) → has_number (kinds_list H).numbers k ↔ ((r : KindRow) × (T.kinds k ≡ Some r))
+  pub kind_rows : (k : ℕ) (r : KindRow) → T.kinds k ≡ Some r → (kinds_list H).row k ≡ kind_row_words r
+  pub rules : (k c : ℕ) → has_number (rules_list H k).numbers c ↔ ((r : RuleRow) × (T.rules k c ≡ Some r))
+  pub rule_rows : (k c : ℕ) (r : RuleRow) → T.rules k c ≡ Some r → (rules_list H k).row c ≡ rule_row_words r
+  pub missing_copies : (c : ℕ) → has_number (missing_copies_list H).numbers c ↔ IsMissing T c
+  pub missing_copy_rows : (c : ℕ) (r : CopyRow) (x : TitleRow) → T.copies c ≡ Some r → T.titles r.title ≡ Some x
+      → (missing_copies_list H).row c ≡ missing_copy_words r x
+  pub loans : (c l : ℕ) → has_number (loans_list H c).numbers l ↔ IsLoanOfCopy T c l
+  pub loan_rows : (c l : ℕ) (r : LoanRow) → T.loans l ≡ Some r → (loans_list H c).row l ≡ loan_row_words r
 
 -- After every legal history they show its rows.
 abbrev pub RowsAreShown : Type 0

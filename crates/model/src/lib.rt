@@ -276,7 +276,8 @@ pub fn one_each_law()
 
 /// Each list that can be asked for has exactly the numbers of those rows of the tables that pass its
 /// test, a page those of the patron's open loans and active holds, and the till's sums are those of
-/// the day's rows.
+/// the day's rows. Of branches, kinds of patrons, rules, missing copies and loans the columns are
+/// told.
 pub fn rows_shown_law()
     ensures { RowsAreShown }
 {}
