@@ -243,11 +243,11 @@ def a_new_library(folder):
     check("one UNIQUE", len(rows(path, unique)), 1)
     indexes = "SELECT name FROM sqlite_schema WHERE type = 'index' AND sql IS NOT NULL ORDER BY rowid"
     wanted = """loans_copy loans_patron holds_copy holds_patron holds_title holds_branch lines_day loans_branch holds2_copy holds2_patron
-        holds2_title holds2_branch loans3_copy loans3_patron loans3_branch copies_title lines_patron holds2_state"""
+        holds2_title holds2_branch loans3_copy loans3_patron loans3_branch copies_title lines_patron holds2_state loans3_of_copy copies_condition"""
     check("indexes", [name for (name,) in rows(path, indexes)], wanted.split())
     check("the index of a title's line", rows(path, "SELECT sql FROM sqlite_schema WHERE name = 'holds2_title'"),
           [("CREATE INDEX holds2_title ON holds2 (title, state, first_day, hold)",)])
-    check("the three indexes that came last", [text for (text,) in rows(path, "SELECT sql FROM sqlite_schema WHERE type = 'index' AND sql IS NOT NULL ORDER BY rowid")[-3:]],
+    check("the five indexes that came last", [text for (text,) in rows(path, "SELECT sql FROM sqlite_schema WHERE type = 'index' AND sql IS NOT NULL ORDER BY rowid")[-5:]],
           indexes_by_hand())
     empty = os.path.join(folder, "empty.db")
     open(empty, "w").close()

@@ -191,6 +191,6 @@ def type_page(room, page, least):
 
 
 def indexes_by_hand():
-    """The three statements that docs/OPERATIONS.md gives for a library that was made before there were these indexes."""
+    """The five statements that docs/OPERATIONS.md gives for a library that was made before there were these indexes."""
     with open(os.path.join(TOP, "docs", "OPERATIONS.md"), encoding="utf-8") as file:
         return re.findall(r"^    (CREATE INDEX .*);$", file.read(), re.MULTILINE)

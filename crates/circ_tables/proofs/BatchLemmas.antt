@@ -20,23 +20,27 @@ use Rattle.sqlite_rules.specs.Lists.{Has}
 use Rattle.sql_maps.proofs.OrderLemmas.{batch_sorted}
 use Rattle.sql_maps.proofs.Words.{in_order_up_to}
 use Rattle.circ_tables.specs.Paired.{by_pair}
-use Rattle.circ_tables.specs.Shape.{schema, kept, kept_place}
+use Rattle.circ_tables.specs.Shape.{schema, closed_days, closed_days_place, rules, rules_place, kept, kept_place}
 use Rattle.circ_tables.specs.Texts.{names_of}
-use Rattle.circ_tables.specs.Selections.{is_after, is_any, is_kept_after}
+use Rattle.circ_tables.specs.Selections.{is_after, is_any, is_kept_after, is_second_after}
 use Rattle.circ_tables.specs.declared.by_number.TheConstants.{BATCH_ROWS}
 use Rattle.circ_tables.specs.declared.kept.TheConstants.{FIRST_KEPT_TEXT, KEPT_AFTER_TEXT, KEPT_PAST_TEXT}
+use Rattle.circ_tables.specs.declared.closed_days.TheConstants.{CLOSED_DAYS_AFTER_TEXT}
+use Rattle.circ_tables.specs.declared.rules.TheConstants.{RULES_AFTER_TEXT}
 use Rattle.circ_tables.proofs.ListLemmas.{pair_tells, pair_below}
 
 -- a row of a batch is one of the map
 pub there : (most : ℕ) (m : Map) (good : Row → _) (rows : List Row) → FirstRows most m good rows → (v : Row) → Has rows v → (k : Row) × (m k ≡ Some v)
 there most m good rows first v has = let at = first.sound v has in (at.0, at.1)
 
--- ---- what is kept, by callers and keys
+-- ---- tables that are keyed by two columns
 
 -- a row of such a batch is one of the map
-pub kept_there : (good : Row → _) (m : Map) (rows : List Row) → FirstRowsBy PairBelow BATCH_ROWS m good rows → (v : Row) → Has rows v
+pub pairs_there : (good : Row → _) (m : Map) (rows : List Row) → FirstRowsBy PairBelow BATCH_ROWS m good rows → (v : Row) → Has rows v
     → (k : Row) × (m k ≡ Some v)
-kept_there good m rows first v has = let at = first.sound v has in (at.0, at.1)
+pairs_there good m rows first v has = let at = first.sound v has in (at.0, at.1)
+
+-- ---- what is kept, by callers and keys
 
 abbrev first_kept_text : List ℕ
 first_kept_text = FIRST_KEPT_TEXT.now
@@ -107,3 +111,50 @@ kept_past_found a =
     (λ x y p q _ _ tie. pair_tells (column x 1) (column x 2) (column y 1) (column y 2) p q tie)
     (λ x y less. pair_below (column x 1) (column x 2) (column y 1) (column y 2) less) (λ l. refl) schema kept_place
     (names_of kept) kept_past_text refl kept_past_is.0 kept_past_is.1 kept_past_is.2
+
+-- ---- closed days of a branch, and rules of a kind
+
+abbrev second_after_tests : List Term
+second_after_tests = op2 (Compare Eq Binary) (col 1 1) (col 0 0) ∷ op2 (Compare Gt Binary) (col 1 2) (col 0 1) ∷ []
+
+abbrev closed_days_after_text : List ℕ
+closed_days_after_text = CLOSED_DAYS_AFTER_TEXT.now
+
+closed_days_after_is : (command_of (understood schema closed_days_after_text) ≡ Select
+    (record { lets = []; body = in_order_up_to closed_days.tree second_after_tests (each_column 1 closed_days) by_pair (lit (Int (pos BATCH_ROWS))) })
+    (names_of closed_days)) × IsPlain (understood schema closed_days_after_text) × (reads_listing schema closed_days_after_text ≡ false)
+unfolding understood everything
+closed_days_after_is = (refl, (refl, refl), refl)
+
+pub closed_days_after_plain : (s : Schema) → s ≡ schema → IsPlain (understood s closed_days_after_text)
+closed_days_after_plain s e = subst (λ z. IsPlain (understood z closed_days_after_text)) (sym e) closed_days_after_is.1
+
+pub closed_days_after_found : (a b : ℕ) → (old new : State) (rows : List Row) → Shown closed_days_after_text (Int (pos a) ∷ Int (pos b) ∷ []) old new rows
+    → (maps : Maps) → Holds schema old.now maps
+    → FirstRowsBy PairBelow BATCH_ROWS (maps closed_days_place) (is_second_after a b) rows × IsUnchanged old new
+closed_days_after_found a b =
+    batch_sorted closed_days second_after_tests by_pair (Int (pos a) ∷ Int (pos b) ∷ []) (is_second_after a b) (λ r. refl) (λ r. refl) PairBelow BATCH_ROWS
+    (λ x y p q _ _ tie. pair_tells (column x 1) (column x 2) (column y 1) (column y 2) p q tie)
+    (λ x y less. pair_below (column x 1) (column x 2) (column y 1) (column y 2) less) (λ l. refl) schema closed_days_place
+    (names_of closed_days) closed_days_after_text refl closed_days_after_is.0 closed_days_after_is.1 closed_days_after_is.2
+
+abbrev rules_after_text : List ℕ
+rules_after_text = RULES_AFTER_TEXT.now
+
+rules_after_is : (command_of (understood schema rules_after_text) ≡ Select
+    (record { lets = []; body = in_order_up_to rules.tree second_after_tests (each_column 1 rules) by_pair (lit (Int (pos BATCH_ROWS))) })
+    (names_of rules)) × IsPlain (understood schema rules_after_text) × (reads_listing schema rules_after_text ≡ false)
+unfolding understood everything
+rules_after_is = (refl, (refl, refl), refl)
+
+pub rules_after_plain : (s : Schema) → s ≡ schema → IsPlain (understood s rules_after_text)
+rules_after_plain s e = subst (λ z. IsPlain (understood z rules_after_text)) (sym e) rules_after_is.1
+
+pub rules_after_found : (a b : ℕ) → (old new : State) (rows : List Row) → Shown rules_after_text (Int (pos a) ∷ Int (pos b) ∷ []) old new rows
+    → (maps : Maps) → Holds schema old.now maps
+    → FirstRowsBy PairBelow BATCH_ROWS (maps rules_place) (is_second_after a b) rows × IsUnchanged old new
+rules_after_found a b =
+    batch_sorted rules second_after_tests by_pair (Int (pos a) ∷ Int (pos b) ∷ []) (is_second_after a b) (λ r. refl) (λ r. refl) PairBelow BATCH_ROWS
+    (λ x y p q _ _ tie. pair_tells (column x 1) (column x 2) (column y 1) (column y 2) p q tie)
+    (λ x y less. pair_below (column x 1) (column x 2) (column y 1) (column y 2) less) (λ l. refl) schema rules_place
+    (names_of rules) rules_after_text refl rules_after_is.0 rules_after_is.1 rules_after_is.2

@@ -1,11 +1,13 @@
 //! The table of single closed days.
 
 ghost use Rattle.std.specs.Prelude.{◌≡◌, ◌≢◌, Err, IfOk, [], map};
+ghost use Rattle.sql_maps.specs.Batches.{FirstRowsBy};
 ghost use Rattle.sql_maps.specs.Maps.{ListedBy, PairBelow};
 ghost use Rattle.circ_tables.specs.ClosedDays.{closed_days};
 ghost use Rattle.circ_tables.specs.Puts.{PutsRow, TakesRow};
 ghost use Rattle.circ_tables.specs.Reading.{Lists, ListsDays};
-ghost use Rattle.circ_tables.specs.Selections.{is_any};
+ghost use Rattle.circ_tables.specs.Selections.{is_any, is_second_after};
+ghost use Rattle.circ_tables.specs.declared.by_number.TheConstants.{BATCH_ROWS};
 
 use crate::cell::{branch_at, day_at, has_width};
 use crate::sql_calls::run;
@@ -13,7 +15,7 @@ use crate::table::{Table, rows_of};
 use calendar::Day;
 use sqlite::{Alter, Connection, Row, Transaction, params};
 use std::alloc::Global;
-use terms::{BranchId, ClosedDayRow, Fault};
+use terms::{BranchId, ClosedDayRow, DayNumber, Fault};
 
 impl Table for ClosedDayRow {
     type Key = (u32, u32);
@@ -77,6 +79,30 @@ pub fn all_closed_days<S: Alter>(
         (),
         "SELECT * FROM closed_days ORDER BY branch, day",
         &[],
+    )
+}
+
+/// The SQL of `closed_days_after`.
+pub const CLOSED_DAYS_AFTER_TEXT: &str =
+    "SELECT * FROM closed_days WHERE branch = ?1 AND day > ?2 ORDER BY branch, day LIMIT 101";
+
+/// Reads a batch of a branch's single closed days after this one, by day. Faults 90, 91, 93.
+pub fn closed_days_after<S: Alter>(
+    conn: &mut Connection<S>,
+    alloc: Global,
+    branch: BranchId,
+    after: DayNumber,
+) -> Result<Vec<ClosedDayRow>, Fault>
+    ensures { Lists closed_days (λ l. l.items)
+        (λ m. FirstRowsBy PairBelow BATCH_ROWS m (is_second_after branch after))
+        S.Store conn.old conn.new result }
+{
+    rows_of(
+        conn,
+        alloc,
+        (),
+        CLOSED_DAYS_AFTER_TEXT,
+        params![branch.number(), after.number()],
     )
 }
 

@@ -5,6 +5,7 @@ ghost use Rattle.sql_maps.specs.Batches.{FirstRows};
 ghost use Rattle.circ_tables.specs.Copies.{copies, copies_are};
 ghost use Rattle.circ_tables.specs.Reading.{Lists, Selects};
 ghost use Rattle.circ_tables.specs.Selections.{StandsFree, is_copy_of, is_copy_of_after};
+ghost use Rattle.circ_tables.specs.Selections.{is_missing_after};
 ghost use Rattle.circ_tables.specs.Shape.{copies_place, holds_place, loans_place, transits_place};
 ghost use Rattle.circ_tables.specs.declared.by_number.TheConstants.{BATCH_ROWS};
 
@@ -131,6 +132,28 @@ pub fn copies_of_title_after<S: Alter>(
         (),
         COPIES_OF_TITLE_AFTER_TEXT,
         params![title.number(), after.number()],
+    )
+}
+
+/// The SQL of `missing_copies_after`.
+pub const MISSING_COPIES_AFTER_TEXT: &str =
+    "SELECT * FROM copies WHERE condition = 1 AND copy > ?1 ORDER BY copy LIMIT 101";
+
+/// Reads a batch of missing copies above this number, by number. Faults 90, 91, 93.
+pub fn missing_copies_after<S: Alter>(
+    conn: &mut Connection<S>,
+    alloc: Global,
+    after: CopyId,
+) -> Result<Vec<CopyRow>, Fault>
+    ensures { Lists copies (λ l. l.items) (λ m. FirstRows BATCH_ROWS m (is_missing_after after))
+        S.Store conn.old conn.new result }
+{
+    rows_of(
+        conn,
+        alloc,
+        (),
+        MISSING_COPIES_AFTER_TEXT,
+        params![after.number()],
     )
 }
 

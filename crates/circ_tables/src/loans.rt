@@ -6,7 +6,7 @@ ghost use Rattle.circ_tables.specs.Copies.{copies};
 ghost use Rattle.circ_tables.specs.Loans.{loans, loans_are};
 ghost use Rattle.circ_tables.specs.Reading.{Counts, Lists, Selects};
 ghost use Rattle.circ_tables.specs.Selections.{LendsTitle, is_open_by, is_open_of};
-ghost use Rattle.circ_tables.specs.Selections.{is_overdue_after};
+ghost use Rattle.circ_tables.specs.Selections.{is_loan_of_after, is_overdue_after};
 ghost use Rattle.circ_tables.specs.Shape.{copies_place, loans_place};
 ghost use Rattle.circ_tables.specs.declared.by_number.TheConstants.{BATCH_ROWS};
 
@@ -207,5 +207,29 @@ pub fn overdue_loans_after<S: Alter>(
         (),
         OVERDUE_LOANS_AFTER_TEXT,
         params![branch.number(), day.number(), after.number()],
+    )
+}
+
+/// The SQL of `loans_of_copy_after`.
+pub const LOANS_OF_COPY_AFTER_TEXT: &str =
+    "SELECT * FROM loans3 WHERE copy = ?1 AND loan > ?2 ORDER BY loan LIMIT 101";
+
+/// Reads a batch of the loans ever made of a copy, above this number, by number. Faults 90, 91, 93.
+pub fn loans_of_copy_after<S: Alter>(
+    conn: &mut Connection<S>,
+    alloc: Global,
+    copy: CopyId,
+    after: LoanId,
+) -> Result<Vec<LoanRow>, Fault>
+    ensures { Lists loans (λ l. l.items)
+        (λ m. FirstRows BATCH_ROWS m (is_loan_of_after copy after))
+        S.Store conn.old conn.new result }
+{
+    rows_of(
+        conn,
+        alloc,
+        (),
+        LOANS_OF_COPY_AFTER_TEXT,
+        params![copy.number(), after.number()],
     )
 }

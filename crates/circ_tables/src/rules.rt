@@ -1,11 +1,13 @@
 //! The table of circulation rules, from schema 3 on.
 
 ghost use Rattle.std.specs.Prelude.{[]};
+ghost use Rattle.sql_maps.specs.Batches.{FirstRowsBy};
 ghost use Rattle.sql_maps.specs.Maps.{ListedBy, PairBelow};
 ghost use Rattle.circ_tables.specs.Puts.{PutsRow};
 ghost use Rattle.circ_tables.specs.Reading.{Gets, Lists};
 ghost use Rattle.circ_tables.specs.Rules.{rules};
-ghost use Rattle.circ_tables.specs.Selections.{is_any};
+ghost use Rattle.circ_tables.specs.Selections.{is_any, is_second_after};
+ghost use Rattle.circ_tables.specs.declared.by_number.TheConstants.{BATCH_ROWS};
 
 use crate::cell::{cents_at, copy_kind_at, count_at, days_at, has_width, money, patron_kind_at};
 use crate::sql_calls::run;
@@ -89,5 +91,30 @@ pub fn all_rules<S: Alter>(conn: &mut Connection<S>, alloc: Global) -> Result<Ve
         (),
         "SELECT * FROM rules3 ORDER BY kind, copy_kind",
         &[],
+    )
+}
+
+/// The SQL of `rules_after`.
+pub const RULES_AFTER_TEXT: &str =
+    "SELECT * FROM rules3 WHERE kind = ?1 AND copy_kind > ?2 ORDER BY kind, copy_kind LIMIT 101";
+
+/// Reads a batch of the rules of a kind of patron for kinds of copy above this one, by kind of
+/// copy. Faults 90, 91, 93.
+pub fn rules_after<S: Alter>(
+    conn: &mut Connection<S>,
+    alloc: Global,
+    kind: PatronKind,
+    after: CopyKind,
+) -> Result<Vec<RuleRow>, Fault>
+    ensures { Lists rules (λ l. l.items)
+        (λ m. FirstRowsBy PairBelow BATCH_ROWS m (is_second_after kind after))
+        S.Store conn.old conn.new result }
+{
+    rows_of(
+        conn,
+        alloc,
+        (),
+        RULES_AFTER_TEXT,
+        params![kind.number(), after.number()],
     )
 }

@@ -25,9 +25,10 @@ struct Older {
     first_day: &'static str,
 }
 
-/// What a library has before schema 3: three indexes and two tables fewer, two rules, an open loan
+/// What a library has before schema 3: four indexes and two tables fewer, two rules, an open loan
 /// and an ended one.
 const BEFORE_3: &str = "DROP INDEX copies_title;DROP INDEX lines_patron;DROP INDEX holds2_state;\
+DROP INDEX copies_condition;\
 DROP TABLE rules3;DROP TABLE loans3;\
 INSERT INTO rules VALUES (1, 1, 6, 1, 20, 100), (1, 2, 12, 1, 20, 100);\
 INSERT INTO loans VALUES (1, 11, 1, 1, 20514, 20521, 6, 1, 20, 100, NULL), (2, 20, 2, 2, 20500, 20513, 12, 0, 20, 100, 20514)";

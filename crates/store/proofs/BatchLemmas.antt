@@ -17,6 +17,7 @@ use Rattle.sql_maps.specs.Batches.{FirstRows}
 use Rattle.terms.specs.Limits.{InLimits, IsPatron, IsCopy, IsLoan, IsHold, IsTransit, IsLine}
 use Rattle.terms.specs.Pictures.{Picture}
 use Rattle.terms.specs.declared.fault.Fault.{Fault}
+use Rattle.terms.specs.declared.row.Condition.TheVariants.{Missing}
 use Rattle.terms.specs.declared.row.LoanRow.{LoanRow}
 use Rattle.terms.specs.declared.row.HoldRow.{HoldRow}
 use Rattle.terms.specs.declared.row.HoldState.TheVariants.{Waiting, Ready}
@@ -29,6 +30,7 @@ use Rattle.circ_tables.specs.Encoding.{Encodes}
 use Rattle.circ_tables.specs.Numbered.{IsNumberTable}
 use Rattle.circ_tables.specs.Selections.{is_ready_after, is_overdue_after, is_line_after, is_account_line_after, is_copy_of_after}
 use Rattle.circ_tables.specs.Selections.{is_waiting_after, is_waiting_for_after, is_debtor_after, is_transit_to_after, is_next}
+use Rattle.circ_tables.specs.Selections.{is_missing_after, is_loan_of_after}
 use Rattle.circ_tables.specs.Shape.{patrons_place, copies_place, loans_place, holds_place, transits_place, lines_place}
 use Rattle.circ_tables.specs.Patrons.{patrons_are}
 use Rattle.circ_tables.specs.Copies.{copies_are}
@@ -38,13 +40,14 @@ use Rattle.circ_tables.specs.Holds.{holds_are}
 use Rattle.circ_tables.specs.Lines.{lines_are}
 use Rattle.circ_tables.specs.declared.by_number.TheConstants.{BATCH_ROWS}
 use Rattle.circ_tables.proofs.CellLemmas.{is_least, least_if, if_least, same_if, if_same, none_if, if_none, waits_if, if_waits}
-use Rattle.circ_tables.proofs.CellLemmas.{ready_if, if_ready, below_if}
+use Rattle.circ_tables.proofs.CellLemmas.{ready_if, if_ready, missing_if, if_missing, below_if}
 use Rattle.circ_tables.proofs.CellLemmas.{if_below, above_if, if_above, alone, from_alone, both, from_both}
 use Rattle.circ_tables.proofs.InverseLemmas.{told}
 use Rattle.circ_tables.proofs.DayLemmas.{below}
 use Rattle.circ_tables.proofs.ShownLemmas.{one_found, stands, rows_rise}
 use Rattle.store.specs.Batches.{AreFirstRows, AreRowsAfter, AreNumbered, IsPassedOver, AreReadyAfter, AreOverdueAfter, AreLinesAfter}
 use Rattle.store.specs.Batches.{AreAccountLinesAfter, AreCopiesAfter, AreWaitingAfter, AreWaitingForAfter, AreDebtorsAfter, AreTransitsAfter}
+use Rattle.store.specs.Batches.{AreMissingAfter, AreLoansOfAfter}
 use Rattle.store.proofs.ViewLemmas.{rows_seen}
 use Rattle.store.proofs.ListLemmas.{rise_is}
 
@@ -121,6 +124,20 @@ module _ (maps : Maps) (P : Picture) (is : Encodes maps P) (legal : InLimits P) 
       are_first copies_are maps P is legal (is_copy_of_after title after) (λ r. (r.title ≡ title) × (after < r.copy))
       (λ r legal good. let tests = both _ _ good in (same_if r.title title tests.0, above_if r.copy after tests.1))
       (λ r passes. from_both _ _ (if_same r.title title passes.0) (if_above r.copy after passes.1))
+
+  pub missing_after_are : (after : ℕ) (rows : List CopyRow) → All IsCopy rows
+      → FirstRows BATCH_ROWS (maps copies_place) (is_missing_after after) (map copy_cells rows) → AreMissingAfter P after rows
+  missing_after_are after =
+      are_first copies_are maps P is legal (is_missing_after after) (λ r. (r.condition ≡ Missing) × (after < r.copy))
+      (λ r legal good. let tests = both _ _ good in (missing_if r.condition tests.0, above_if r.copy after tests.1))
+      (λ r passes. from_both _ _ (if_missing r.condition passes.0) (if_above r.copy after passes.1))
+
+  pub loans_of_after_are : (copy after : ℕ) (rows : List LoanRow) → All IsLoan rows
+      → FirstRows BATCH_ROWS (maps loans_place) (is_loan_of_after copy after) (map loan_cells rows) → AreLoansOfAfter P copy after rows
+  loans_of_after_are copy after =
+      are_first loans_are maps P is legal (is_loan_of_after copy after) (λ r. (r.copy ≡ copy) × (after < r.loan))
+      (λ r legal good. let tests = both _ _ good in (same_if r.copy copy tests.0, above_if r.loan after tests.1))
+      (λ r passes. from_both _ _ (if_same r.copy copy passes.0) (if_above r.loan after passes.1))
 
   pub waiting_after_are : (after : ℕ) (rows : List HoldRow) → All IsHold rows
       → FirstRows BATCH_ROWS (maps holds_place) (is_waiting_after after) (map hold_cells rows) → AreWaitingAfter P after rows

@@ -2,9 +2,11 @@
 use Rattle.std.specs.Prelude.{◌≡◌, ◌⊎◌, ◌<◌, ◌≤◌, ℕ, List, length, Option, Some, None}
 use Rattle.std.specs.List.{Contains}
 use Rattle.circ_tables.specs.declared.by_number.TheConstants.{BATCH_ROWS}
+use Rattle.circ_tables.specs.ClosedDays.{closed_days}
 use Rattle.circ_core.specs.Views.{IsLoanOf, IsHoldOf}
+use Rattle.terms.specs.declared.row.ClosedDayRow.{ClosedDayRow}
 use Rattle.terms.specs.declared.row.CopyRow.{CopyRow}
-use Rattle.terms.specs.declared.row.Condition.TheVariants.{Present}
+use Rattle.terms.specs.declared.row.Condition.TheVariants.{Present, Missing}
 use Rattle.terms.specs.declared.row.LoanRow.{LoanRow}
 use Rattle.terms.specs.declared.row.HoldRow.{HoldRow}
 use Rattle.terms.specs.declared.row.HoldState.TheVariants.{Waiting, Ready}
@@ -44,6 +46,14 @@ AreAccountLinesAfter P patron after = AreFirstRows P.lines (λ r. r.line) (λ r.
 abbrev pub AreCopiesAfter : Picture → ℕ → ℕ → List CopyRow → Type 0
 AreCopiesAfter P title after = AreFirstRows P.copies (λ r. r.copy) (λ r. (r.title ≡ title) × (after < r.copy))
 
+-- A batch of the missing copies, above a number.
+abbrev pub AreMissingAfter : Picture → ℕ → List CopyRow → Type 0
+AreMissingAfter P after = AreFirstRows P.copies (λ r. r.copy) (λ r. (r.condition ≡ Missing) × (after < r.copy))
+
+-- A batch of the loans ever made of the copy, above a number.
+abbrev pub AreLoansOfAfter : Picture → ℕ → ℕ → List LoanRow → Type 0
+AreLoansOfAfter P copy after = AreFirstRows P.loans (λ r. r.loan) (λ r. (r.copy ≡ copy) × (after < r.loan))
+
 -- A batch of the waiting holds, of all titles or of one, above a number.
 abbrev pub AreWaitingAfter : Picture → ℕ → List HoldRow → Type 0
 AreWaitingAfter P after = AreFirstRows P.holds (λ r. r.hold) (λ r. (r.state ≡ Waiting) × (after < r.hold))
@@ -78,6 +88,10 @@ IsLeastShelved P title branch None = (c : ℕ) (r : CopyRow) → IsShelved P tit
 -- A batch of all rows of a table, above a number.
 abbrev pub AreRowsAfter : {R : Type 0} → (ℕ → Option R) → (R → ℕ) → ℕ → List R → Type 0
 AreRowsAfter t number_of after = AreFirstRows t number_of (λ r. after < number_of r)
+
+-- A batch of the branch's single closed days, after a day.
+abbrev pub AreClosedDaysAfter : Picture → ℕ → ℕ → List ClosedDayRow → Type 0
+AreClosedDaysAfter P branch after = AreRowsAfter (λ day. closed_days.rows P (branch, day)) (λ r. r.day) after
 
 -- Each row of a table stands under its own number; numbers begin at 1.
 abbrev pub AreNumbered : {R : Type 0} → (ℕ → Option R) → (R → ℕ) → Type 0

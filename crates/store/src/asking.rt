@@ -4,8 +4,9 @@ ghost use Rattle.std.specs.Prelude.{◌≡◌};
 ghost use Rattle.terms.specs.Limits.{InLimits};
 ghost use Rattle.circ_core.specs.Views.{IsCopyView, IsFirstOf, IsLoanOf, IsTravelFor};
 ghost use Rattle.store.specs.Batches.{AreAccountLinesAfter, AreCopiesAfter, AreDebtorsAfter};
+ghost use Rattle.store.specs.Batches.{AreLoansOfAfter, AreMissingAfter};
 ghost use Rattle.store.specs.Batches.{AreTransitsAfter, AreWaitingAfter, AreWaitingForAfter};
-ghost use Rattle.store.specs.Batches.{AreRowsAfter, IsLeastShelved};
+ghost use Rattle.store.specs.Batches.{AreRowsAfter, AreClosedDaysAfter, IsLeastShelved};
 ghost use Rattle.store.specs.Reads.{Looked};
 
 use crate::idle::committed_is_held;
@@ -14,15 +15,16 @@ use crate::viewing::copy_view;
 use calendar::Day;
 use circ_core::View;
 use circ_tables::{
-    account_lines_after, copies_of_title_after, debtors_after, first_in_line, least_shelved,
-    next_rows, open_loan_of, transit_for, transits_to_after, waiting_holds_after,
-    waiting_holds_for_after,
+    account_lines_after, closed_days_after, copies_of_title_after, debtors_after, first_in_line,
+    get_row, least_shelved, loans_of_copy_after, missing_copies_after, next_rows, open_loan_of,
+    rules_after, transit_for, transits_to_after, waiting_holds_after, waiting_holds_for_after,
 };
 use sqlite::Alter;
 use std::alloc::Global;
 use terms::{
-    BranchId, CopyId, CopyRow, Fault, HoldId, HoldRow, LineId, LineRow, LoanRow, PatronId,
-    PatronRow, TitleId, TitleRow, TransitRow,
+    BranchId, BranchRow, ClosedDayRow, CopyId, CopyKind, CopyRow, DayNumber, Fault, HoldId,
+    HoldRow, KindRow, LineId, LineRow, LoanId, LoanRow, PatronId, PatronKind, PatronRow, RuleRow,
+    TitleId, TitleRow, TransitRow,
 };
 
 impl<S: Alter> Store<S> {
@@ -38,6 +40,30 @@ impl<S: Alter> Store<S> {
     {
         committed_is_held(&self.conn);
         copies_of_title_after(&mut self.conn, alloc, title, after)
+    }
+
+    /// Reads a batch of missing copies above this number, by number. Faults 90, 91, 93.
+    pub fn missing_copies(&mut self, alloc: Global, after: CopyId) -> Result<Vec<CopyRow>, Fault>
+        ensures { Looked InLimits (λ P rows. AreMissingAfter P after rows.items) InLimits
+            S.Store self.old self.new result }
+    {
+        committed_is_held(&self.conn);
+        missing_copies_after(&mut self.conn, alloc, after)
+    }
+
+    /// Reads a batch of the loans ever made of a copy, above this number, by number. Faults 90, 91,
+    /// 93.
+    pub fn loans_of_copy(
+        &mut self,
+        alloc: Global,
+        copy: CopyId,
+        after: LoanId,
+    ) -> Result<Vec<LoanRow>, Fault>
+        ensures { Looked InLimits (λ P rows. AreLoansOfAfter P copy after rows.items) InLimits
+            S.Store self.old self.new result }
+    {
+        committed_is_held(&self.conn);
+        loans_of_copy_after(&mut self.conn, alloc, copy, after)
     }
 
     /// Reads a batch of waiting holds for a title above this number, by number. Faults 90, 91, 93.
@@ -102,6 +128,67 @@ impl<S: Alter> Store<S> {
     {
         committed_is_held(&self.conn);
         next_rows(&mut self.conn, alloc, alloc, Some(after.number()))
+    }
+
+    /// Reads a batch of branches above this number, by number. Faults 90, 91, 93.
+    pub fn branches_after(
+        &mut self,
+        alloc: Global,
+        after: BranchId,
+    ) -> Result<Vec<BranchRow>, Fault>
+        ensures { Looked InLimits (λ P rows. AreRowsAfter P.branches (λ r. r.branch) after
+            rows.items) InLimits S.Store self.old self.new result }
+    {
+        committed_is_held(&self.conn);
+        next_rows(&mut self.conn, alloc, alloc, Some(after.number()))
+    }
+
+    /// Reads a batch of the single closed days of a branch after this day, by day. Faults 90, 91,
+    /// 93.
+    pub fn closed_days_after(
+        &mut self,
+        alloc: Global,
+        branch: BranchId,
+        after: DayNumber,
+    ) -> Result<Vec<ClosedDayRow>, Fault>
+        ensures { Looked InLimits (λ P rows. AreClosedDaysAfter P branch after rows.items) InLimits
+            S.Store self.old self.new result }
+    {
+        committed_is_held(&self.conn);
+        closed_days_after(&mut self.conn, alloc, branch, after)
+    }
+
+    /// Reads the row of a kind of patron. Faults 91, 93.
+    pub fn kind(&mut self, kind: PatronKind) -> Result<Option<KindRow>, Fault>
+        ensures { Looked InLimits (λ P row. row ≡ P.kinds kind) InLimits
+            S.Store self.old self.new result }
+    {
+        committed_is_held(&self.conn);
+        get_row::<KindRow, S>(&mut self.conn, (), kind)
+    }
+
+    /// Reads a batch of kinds of patrons above this number, by number. Faults 90, 91, 93.
+    pub fn kinds_after(&mut self, alloc: Global, after: PatronKind) -> Result<Vec<KindRow>, Fault>
+        ensures { Looked InLimits (λ P rows. AreRowsAfter P.kinds (λ r. r.kind) after rows.items)
+            InLimits S.Store self.old self.new result }
+    {
+        committed_is_held(&self.conn);
+        next_rows(&mut self.conn, alloc, (), Some(after.number()))
+    }
+
+    /// Reads a batch of the rules of a kind of patron for kinds of copies above this number, by
+    /// number. Faults 90, 91, 93.
+    pub fn rules_after(
+        &mut self,
+        alloc: Global,
+        kind: PatronKind,
+        after: CopyKind,
+    ) -> Result<Vec<RuleRow>, Fault>
+        ensures { Looked InLimits (λ P rows. AreRowsAfter (P.rules kind) (λ r. r.copy_kind) after
+            rows.items) InLimits S.Store self.old self.new result }
+    {
+        committed_is_held(&self.conn);
+        rules_after(&mut self.conn, alloc, kind, after)
     }
 
     /// Reads a batch of transits to a branch with copies above this number, by number. Faults 90,

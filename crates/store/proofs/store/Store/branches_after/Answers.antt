@@ -1,0 +1,16 @@
+use Rattle.std.proofs.Common.{Some}
+use Rattle.sql_maps.specs.Batches.{FirstRows}
+use Rattle.circ_tables.specs.Branches.{branches, branches_are}
+use Rattle.circ_tables.specs.Selections.{is_next}
+use Rattle.circ_tables.specs.declared.by_number.TheConstants.{BATCH_ROWS}
+use Rattle.store.specs.Batches.{AreRowsAfter}
+use Rattle.store.proofs.BatchLemmas.{batch_are}
+use Rattle.store.proofs.ReadLemmas.{looked_list}
+use Rattle.store.proofs.store.Store.branches_after.Goals as goal
+
+pub returns : goal.returns
+returns g c =
+    looked_list branches (λ l. l.items) (λ m. FirstRows BATCH_ROWS m (is_next (Some c.args.after)))
+    (λ P rows. AreRowsAfter P.branches (λ r. r.branch) c.args.after rows)
+    (λ maps P is legal rows limits first. (batch_are branches_are maps P is legal (Some c.args.after) rows limits first).1) g.S.Store _ _ _
+    (rw c.self.view_is at (c.committed_is_held.ensures)) (rw c.number.ensures.value at (rw c.self.view_is at c.next_rows.ensures))
