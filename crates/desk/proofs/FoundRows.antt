@@ -8,8 +8,8 @@ use Rattle.store.specs.Batches.{AreRowsAfter}
 use Rattle.model.specs.History.{History, PatronFacts, patron_of, patrons, title_of, titles}
 use Rattle.model.specs.Pages.{name_of, title_text}
 use Rattle.model.specs.Picture.{picture, patron_columns}
-use Rattle.model.specs.Asking.{Listing, kind_of_patron, patrons_search, titles_search}
-use Rattle.model.specs.AskingLaws.{AreRising, has_number, found_in_turn, IsSearchedToItsEnd}
+use Rattle.model.specs.Asking.{kind_of_patron, patrons_search, titles_search}
+use Rattle.model.specs.AskingLaws.{has_number, found_in_turn, IsSearchedToItsEnd}
 use Rattle.model.proofs.Asking.{lists-rise}
 use Rattle.model.proofs.Debts.{rising-has}
 use Rattle.model.proofs.Found.{patron-there, patron-known, title-there, title-known, patrons-are-found, titles-are-found}
@@ -18,18 +18,9 @@ use Rattle.desk.specs.Searching.{IsFoundBy, IsShownAs, HasListed}
 use Rattle.desk.specs.Paging.{patron_words}
 use Rattle.desk.specs.Asking.{title_words_of}
 use Rattle.desk.proofs.ListBatches.{patron-number}
-use Rattle.desk.proofs.ListNumbers.{batch-of}
+use Rattle.desk.proofs.ListNumbers.{all-batch}
 use Rattle.desk.proofs.PageRows.{patron-line, title-text, titled}
 use Rattle.desk.proofs.Replies.{title-there as title-row-there, patron-there as patron-row-there}
-
--- A batch of all rows of a table.
-module _ {R : Type 0} (t : ℕ → Option R) (number_of : R → ℕ) (x : Listing) (numbered : (k : ℕ) (r : R) → t k ≡ Some r → number_of r ≡ k)
-    (from : (k : ℕ) → has_number x.numbers k → (r : R) × (t k ≡ Some r)) (rising_numbers : AreRising x.numbers) where
-  all-batch : (at : ℕ) (rows : List R) → AreRowsAfter t number_of at rows → HasBatch number_of (λ r. t (number_of r) ≡ Some r) x at rows
-  all-batch at rows batch =
-      let is = batch-of t number_of (λ r. Unit {0}) x numbered (λ k is. let w = from k is in (w.0, w.1, tt)) rising_numbers (λ r. at < number_of r) at rows
-      (λ r less. (tt, less)) (λ r passes less. less) batch in
-      record { sound = λ r there. let row = is.sound r there in (row.0.0, row.1); whole = is.whole; rise = is.rise; few = is.few; rising = is.rising }
 
 some-is : {A : Type 0} (o : Option A) → is_some o ≡ true → (x : A) × (o ≡ Some x)
 some-is (Some x) e = (x, refl)

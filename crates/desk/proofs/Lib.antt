@@ -45,5 +45,6 @@ pub mod Pulls
 pub mod ListRows
 pub mod Replies
 pub mod FoundRows
+pub mod SettingRows
 pub mod Queues
 pub mod RowsTold

@@ -17,7 +17,7 @@ use Rattle.terms.specs.declared.row.HoldState.TheVariants.{Waiting}
 use Rattle.circ_core.specs.Views.{InLine}
 use Rattle.circ_core.proofs.Claims.{hold_row-is}
 use Rattle.circ_core.proofs.FirstInLine.{stands, stands-row, row-stands}
-use Rattle.store.specs.Batches.{AreFirstRows}
+use Rattle.store.specs.Batches.{AreFirstRows, AreRowsAfter}
 use Rattle.model.specs.History.{History, CopyFacts, copy_of, copy_after, copies, copies_after, PatronFacts, patron_of, patron_after, patrons}
 use Rattle.model.specs.History.{with_card_key, with_kind, with_price, with_home, patrons_after, HoldFacts, hold_of, holds, numbers_to}
 use Rattle.model.specs.Places.{Place, Nowhere, Shelf, HoldShelf, Transit, Loan, MissingCopy, WithdrawnCopy, place, state, line, title_of_copy, title_of_hold}
@@ -55,6 +55,15 @@ module _ {R : Type 0} (t : ℕ → Option R) (number_of : R → ℕ) (Passes : R
     few = batch.few;
     rising = rising_numbers;
   }
+
+-- A batch of all rows of a table.
+module _ {R : Type 0} (t : ℕ → Option R) (number_of : R → ℕ) (x : Listing) (numbered : (k : ℕ) (r : R) → t k ≡ Some r → number_of r ≡ k)
+    (from : (k : ℕ) → has_number x.numbers k → (r : R) × (t k ≡ Some r)) (rising_numbers : AreRising x.numbers) where
+  pub all-batch : (at : ℕ) (rows : List R) → AreRowsAfter t number_of at rows → HasBatch number_of (λ r. t (number_of r) ≡ Some r) x at rows
+  all-batch at rows batch =
+      let is = batch-of t number_of (λ r. Unit {0}) x numbered (λ k is. let w = from k is in (w.0, w.1, tt)) rising_numbers (λ r. at < number_of r) at rows
+      (λ r less. (tt, less)) (λ r passes less. less) batch in
+      record { sound = λ r there. let row = is.sound r there in (row.0.0, row.1); whole = is.whole; rise = is.rise; few = is.few; rising = is.rising }
 
 -- ---- copies and patrons that are listed are there
 

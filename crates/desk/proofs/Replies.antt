@@ -5,11 +5,12 @@ use Rattle.terms.specs.declared.command.Owner.{Owner}
 use Rattle.terms.specs.declared.command.Command.TheVariants.{Ask}
 use Rattle.terms.specs.declared.question.Question.TheVariants as question
 use Rattle.terms.specs.declared.refusal.Refusal.{Refusal}
-use Rattle.terms.specs.declared.refusal.Refusal.TheVariants.{UnknownBranch, UnknownPatron, UnknownTitle, UnknownCopy}
+use Rattle.terms.specs.declared.refusal.Refusal.TheVariants.{UnknownBranch, UnknownPatron, UnknownTitle, UnknownCopy, UnknownKind}
 use Rattle.terms.specs.declared.reply.Reply.{Reply}
 use Rattle.terms.specs.declared.reply.Reply.TheVariants.{Shown, Refused}
 use Rattle.terms.specs.declared.row.BranchRow.{BranchRow}
 use Rattle.terms.specs.declared.row.CopyRow.{CopyRow}
+use Rattle.terms.specs.declared.row.KindRow.{KindRow}
 use Rattle.terms.specs.declared.row.PatronRow.{PatronRow}
 use Rattle.terms.specs.declared.row.TitleRow.{TitleRow}
 use Rattle.model.specs.Answers.{answer}
@@ -67,6 +68,17 @@ module _ (H : History) (o : Owner) where
   unfolding answer-of
   transits-answer b after = answered (has_branch H b) UnknownBranch (listed (transits_list H b) after)
 
+  pub closed-days-answer : (b after : ℕ)
+      → answer H o (Ask (question.ClosedDays b after)) ≡ reply_if (has_branch H b) UnknownBranch (listed (closed_days_list H b) after)
+  unfolding answer-of
+  closed-days-answer b after = answered (has_branch H b) UnknownBranch (listed (closed_days_list H b) after)
+
+  pub rules-answer : (k after : ℕ)
+      → answer H o (Ask (question.Rules k after)) ≡ reply_if (is_some (kind_of H k)) UnknownKind (listed (rules_list H k) after)
+  unfolding answer-of
+  rules-answer k after = ap (answer-of UnknownKind (listed (rules_list H k) after)) (none-not-some (kind_of H k))
+      ∙ answered (is_some (kind_of H k)) UnknownKind (listed (rules_list H k) after)
+
   pub account-answer : (p after : ℕ) → answer H o (Ask (question.Account p after)) ≡ reply_if (has_patron H p) UnknownPatron (listed (account_list H p) after)
   unfolding answer-of
   account-answer p after = answered (has_patron H p) UnknownPatron (listed (account_list H p) after)
@@ -98,6 +110,9 @@ module _ (H : History) where
 
   pub branch-there : (b : ℕ) (o : Option BranchRow) → o ≡ (picture H).branches b → has_branch H b ≡ is_some o
   branch-there b o e = sym (map-some _ (branch_of H b)) ∙ sym (ap is_some e)
+
+  pub kind-there : (k : ℕ) (o : Option KindRow) → o ≡ (picture H).kinds k → is_some (kind_of H k) ≡ is_some o
+  kind-there k o e = sym (map-some _ (kind_of H k)) ∙ sym (ap is_some e)
 
   pub patron-there : (p : ℕ) (o : Option PatronRow) → o ≡ (picture H).patrons p → has_patron H p ≡ is_some o
   patron-there p o e = sym (map-some _ (patron_of H p)) ∙ sym (ap is_some e)

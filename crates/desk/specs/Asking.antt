@@ -10,6 +10,7 @@ use Rattle.terms.specs.declared.reply.Reply.TheVariants.{Shown, Refused}
 use Rattle.terms.specs.declared.row.LoanRow.{LoanRow}
 use Rattle.terms.specs.declared.row.HoldRow.{HoldRow}
 use Rattle.terms.specs.declared.row.LineRow.{LineRow}
+use Rattle.terms.specs.declared.row.RuleRow.{RuleRow}
 use Rattle.terms.specs.declared.row.TitleRow.{TitleRow}
 use Rattle.model.specs.History.{History}
 use Rattle.model.specs.Answers.{answer}
@@ -49,6 +50,18 @@ today_words day = spaced (codes "today" ∷ day_text day ∷ [])
 
 abbrev pub kind_words : ℕ → List ℕ
 kind_words kind = spaced (codes "kind" ∷ decimal kind ∷ [])
+
+-- A rule, as far as its loans go, and the words after that, for its fines.
+abbrev pub lending_words : RuleRow → List ℕ
+lending_words row = spaced (codes "rule" ∷ decimal row.kind ∷ decimal row.copy_kind ∷ codes "period" ∷ decimal row.period
+    ∷ codes "renewals" ∷ decimal row.renewals ∷ [])
+
+abbrev pub fine_words : RuleRow → List (List ℕ)
+fine_words row = codes "rate" ∷ decimal row.rate ∷ codes "cap" ∷ decimal row.cap ∷ codes "grace" ∷ decimal row.grace ∷ []
+
+-- A closed day.
+abbrev pub closed_day_words : ℕ → List ℕ
+closed_day_words day = spaced (codes "day" ∷ day_text day ∷ [])
 
 -- ---- replies
 

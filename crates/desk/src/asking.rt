@@ -18,13 +18,16 @@ ghost use Rattle.desk.specs.Asking.{today_words, kind_words};
 ghost use Rattle.desk.specs.Paging.{patron_words};
 
 use crate::listing::{Listed, list_text};
-use crate::lists::{AccountOf, CopiesOf, Debtors, PullsAt, QueueFor, TransitsTo};
+use crate::lists::{
+    AccountOf, CopiesOf, Debtors, LoansOf, MissingCopies, PullsAt, QueueFor, TransitsTo,
+};
 use crate::overdue::{OVERDUE_HEADER, lender_of};
 use crate::patron_page::patron_line;
 use crate::placing::copy_text;
 use crate::reports::with_newline;
 use crate::searches::{PatronsByName, TitlesByText};
 use crate::searching::search_text;
+use crate::settings::{Branches, ClosedDaysOf, Kinds, RulesOf};
 use crate::shelf::{SHELF_HEADER, ShelfAt};
 use crate::till::till_text;
 use circ_core::View;
@@ -32,8 +35,8 @@ use sqlite::Alter;
 use std::alloc::Global;
 use store::Store;
 use terms::{
-    BranchId, CopyId, Day, Fault, HoldId, LineId, LoanId, Memory, Name, PatronId, PatronKind,
-    PatronRow, Question, Refusal, Reply, Text, TitleId, TitleRow,
+    BranchId, CopyId, CopyKind, Day, DayNumber, Fault, HoldId, LineId, LoanId, Memory, Name,
+    PatronId, PatronKind, PatronRow, Question, Refusal, Reply, Text, TitleId, TitleRow,
 };
 
 /// Makes the reply that shows a text.
@@ -321,6 +324,70 @@ fn show_till<S: Alter>(store: &mut Store<S>, alloc: Global, day: Day) -> Result<
 {
     let text = till_text(store, alloc, day)?;
     Ok(shown(text))
+}
+
+/// Shows the branches. Faults 90, 91, 93.
+fn show_branches<S: Alter>(
+    store: &mut Store<S>,
+    alloc: Global,
+    after: BranchId,
+) -> Result<Reply, Fault>
+    ensures { Learns (IsAnswer (question.Branches after))
+        S.Store store.old store.new result }
+{
+    let text = list_text(store, alloc, &Branches, String::new(alloc), after.number())?;
+    Ok(shown(text))
+}
+
+/// Shows the single closed days of a branch that come after today, or 10. Faults 90, 91, 93.
+fn show_closed_days<S: Alter>(
+    store: &mut Store<S>,
+    alloc: Global,
+    branch: BranchId,
+    after: DayNumber,
+) -> Result<Reply, Fault>
+    ensures { Learns (IsAnswer (question.ClosedDays branch after))
+        S.Store store.old store.new result }
+{
+    let meta = store.meta()?;
+    let list = ClosedDaysOf {
+        branch,
+        today: meta.today,
+    };
+    show_of_branch(store, alloc, branch, &list, "", after.number())
+}
+
+/// Shows the kinds of patrons. Faults 90, 91, 93.
+fn show_kinds<S: Alter>(
+    store: &mut Store<S>,
+    alloc: Global,
+    after: PatronKind,
+) -> Result<Reply, Fault>
+    ensures { Learns (IsAnswer (question.Kinds after))
+        S.Store store.old store.new result }
+{
+    let text = list_text(store, alloc, &Kinds, String::new(alloc), after.number())?;
+    Ok(shown(text))
+}
+
+/// Shows the rules of a kind of patron, or 17. Faults 90, 91, 93.
+fn show_rules<S: Alter>(
+    store: &mut Store<S>,
+    alloc: Global,
+    kind: PatronKind,
+    after: CopyKind,
+) -> Result<Reply, Fault>
+    ensures { Learns (IsAnswer (question.Rules kind after))
+        S.Store store.old store.new result }
+{
+    match store.kind(kind)? {
+        Some(_row) => {
+            let head = String::new(alloc);
+            let text = list_text(store, alloc, &RulesOf { kind }, head, after.number())?;
+            Ok(shown(text))
+        }
+        None => Ok(Reply::Refused(Refusal::UnknownKind)),
+    }
 }
 
 /// Answers a question, or refuses it. Faults 90, 91, 93.

@@ -51,6 +51,10 @@ desk m5 check-in 20 2 -> fine 20 shelf 2
 8/cardkey00001 m9 pulls 1 0 -> refused 81
 1/cardkey00002 m9 transits 1 0 -> refused 81
 1/cardkey00001 m9 till 2026-03-11 -> refused 81
+1/cardkey00001 m9 branches 0 -> refused 81
+1/cardkey00001 m1 closed-days 1 0 -> refused 81
+2/cardkey00002 m9 kinds 0 -> refused 81
+8/cardkey00001 m9 rules 1 0 -> refused 81
 desk m1 copy 10 -> copy 10 home 1 kind 1 price 2500 title 100 Rivers of the North; loan 1 due 2026-03-16 patron 1 Ann Bell
 desk m1 copies 100 0 -> title 100 Rivers of the North; copy 10 loan 1 due 2026-03-16; copy 11 shelf 1; end
 desk m9 queue 100 0 -> title 100 Rivers of the North; end
@@ -62,6 +66,14 @@ desk m9 shelf 1 0 ->       hold    copy  patron until      title; end
 desk m9 pulls 1 0 -> end
 desk m9 transits 1 0 -> copy 30 title 300 Night Ferries; end
 desk m9 till 2026-03-11 -> till 2026-03-11; fines                 20; prices                 0; payments               0; waivers                0
+desk m1 branches 0 -> branch 1 pickup 5 week ooooooc name Main; branch 2 pickup 3 week coooooc name Harbour; end
+desk m9 branches 1 -> branch 2 pickup 3 week coooooc name Harbour; end
+desk m1 closed-days 1 0 -> day 2026-12-24; end
+desk m9 closed-days 2 0 -> end
+desk m9 kinds 0 -> kind 1 loans 5 holds 5 debt 500; end
+desk m9 rules 1 0 -> rule 1 1 period 6 renewals 1 rate 20 cap 100 grace 0; rule 1 2 period 12 renewals 1 rate 20 cap 100 grace 0; end
+desk m9 closed-days 9 0 -> refused 10
+desk m9 rules 9 0 -> refused 17
 desk m9 copy 99 -> refused 13
 desk m9 pulls 9 0 -> refused 10
 desk m9 check-in 30 1 -> fine 0 shelf 1

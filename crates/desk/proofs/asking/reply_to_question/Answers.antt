@@ -70,3 +70,20 @@ returns-in-FindPatrons g c = learns-on c.show_found_patrons.ensures (λ _ _ _. t
 pub returns-in-FindTitles : goal.returns-in-FindTitles
 returns-in-FindTitles g c = learns-on c.show_found_titles.ensures (λ _ _ _. tt) (λ H legal given reply is owner. is owner
     ∙ sym (ap (λ q. answer H owner (Ask q)) c.in-FindTitles.is))
+
+pub returns-in-Branches : goal.returns-in-Branches
+returns-in-Branches g c = learns-on c.show_branches.ensures (λ _ _ _. tt) (λ H legal given reply is owner. is owner
+    ∙ sym (ap (λ q. answer H owner (Ask q)) c.in-Branches.is))
+
+pub returns-in-ClosedDays : goal.returns-in-ClosedDays
+returns-in-ClosedDays g c = learns-on c.show_closed_days.ensures (λ _ _ _. tt) (λ H legal given reply is owner. is owner
+    ∙ sym (ap (λ q. answer H owner (Ask q)) c.in-ClosedDays.is))
+
+pub returns-in-Kinds : goal.returns-in-Kinds
+returns-in-Kinds g c = learns-on c.show_kinds.ensures (λ _ _ _. tt) (λ H legal given reply is owner. is owner
+    ∙ sym (ap (λ q. answer H owner (Ask q)) c.in-Kinds.is))
+
+pub returns-in-Rules : goal.returns-in-Rules
+returns-in-Rules g c = learns-on c.show_rules.ensures (λ _ _ _. tt) (λ H legal given reply is owner. is owner
+    ∙ sym (ap (λ q. answer H owner (Ask q)) c.in-Rules.is))
+

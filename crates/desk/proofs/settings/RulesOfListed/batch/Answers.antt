@@ -1,0 +1,8 @@
+use Rattle.model.proofs.RowRanges.{legal-rows}
+use Rattle.desk.proofs.Looking.{looked, learns-on}
+use Rattle.desk.proofs.SettingRows.{rules-batch}
+use Rattle.desk.proofs.settings.RulesOfListed.batch.Goals as goal
+
+pub returns : goal.returns
+returns g c = learns-on (looked c.rules_after.ensures legal-rows legal-rows) (λ _ _ _. tt)
+    (λ H legal needs rows batch. rules-batch H c.args.self.now.kind c.args.after rows.items (rw c.new.ensures at batch))
