@@ -2,7 +2,8 @@
 use Rattle.std.proofs.Common.{◌≡◌, ℕ, ◌<◌, List, sym, ap}
 use Rattle.std.specs.Prelude.{Option, Some, None, option_map}
 use Rattle.store.specs.Batches.{AreAccountLinesAfter, AreCopiesAfter, AreDebtorsAfter, AreReadyAfter, AreOverdueAfter, AreTransitsAfter}
-use Rattle.store.specs.Batches.{AreWaitingAfter, AreWaitingForAfter}
+use Rattle.store.specs.Batches.{AreWaitingAfter, AreWaitingForAfter, AreMissingAfter, AreLoansOfAfter}
+use Rattle.terms.specs.declared.row.Condition.TheVariants.{Missing}
 use Rattle.terms.specs.declared.row.CopyRow.{CopyRow}
 use Rattle.terms.specs.declared.row.HoldRow.{HoldRow}
 use Rattle.terms.specs.declared.row.HoldState.TheVariants.{Waiting, Ready}
@@ -12,10 +13,13 @@ use Rattle.terms.specs.declared.row.PatronRow.{PatronRow}
 use Rattle.terms.specs.declared.row.TransitRow.{TransitRow}
 use Rattle.model.specs.Accounts.{Line, lines, nth_line}
 use Rattle.model.specs.Asking.{copies_list, transits_list, queue_list, account_list, debts_list, pulls_list, overdue_list, shelf_list}
+use Rattle.model.specs.Asking.{missing_copies_list, loans_list}
 use Rattle.model.specs.History.{History, today, CopyFacts, copy_of, PatronFacts, patron_of}
 use Rattle.model.specs.Invariant.{Invariant}
 use Rattle.model.specs.Picture.{picture, copy_columns, patron_columns, line_columns}
+use Rattle.model.specs.Requests.{IsLegal}
 use Rattle.model.proofs.Asking.{lists-rise}
+use Rattle.model.proofs.ShownRows.{rows-are-shown}
 use Rattle.desk.specs.Listing.{HasBatch}
 use Rattle.desk.proofs.ListNumbers.{batch-of, copies-from, transits-from, transit-copy, queue-from, account-from, debts-from, pulls-from}
 use Rattle.desk.proofs.OverdueLists.{overdue-listed}
@@ -98,3 +102,18 @@ module _ (H : History) where
         (overdue-listed H inv b day now) ((lists-rise H).overdue b)
         (λ r. (r.branch ≡ b) × (r.ended ≡ None) × (r.due < day) × (at < r.loan)) at rows (λ r passes. ((passes.0, passes.1, passes.2), passes.3))
         (λ r passes less. (passes.0, passes.1, passes.2, less)) batch
+
+  module _ (legal : IsLegal H) where
+    pub missing-batch : (at : ℕ) (rows : List CopyRow) → AreMissingAfter (picture H) at rows
+        → HasBatch (λ r. r.copy) (λ r. ((picture H).copies r.copy ≡ Some r) × (r.condition ≡ Missing)) (missing_copies_list H) at rows
+    missing-batch at rows batch =
+        batch-of (picture H).copies (λ r. r.copy) (λ r. r.condition ≡ Missing) (missing_copies_list H) copy-number
+        (λ k is. ((rows-are-shown H legal).missing_copies k).0 is) (lists-rise H).missing_copies
+        (λ r. (r.condition ≡ Missing) × (at < r.copy)) at rows (λ r passes. passes) (λ r passes less. (passes, less)) batch
+
+    pub loans-batch : (c at : ℕ) (rows : List LoanRow) → AreLoansOfAfter (picture H) c at rows
+        → HasBatch (λ r. r.loan) (λ r. ((picture H).loans r.loan ≡ Some r) × (r.copy ≡ c)) (loans_list H c) at rows
+    loans-batch c at rows batch =
+        batch-of (picture H).loans (λ r. r.loan) (λ r. r.copy ≡ c) (loans_list H c) (loan-number H)
+        (λ k is. ((rows-are-shown H legal).loans c k).0 is) ((lists-rise H).loans c)
+        (λ r. (r.copy ≡ c) × (at < r.loan)) at rows (λ r passes. passes) (λ r passes less. (passes, less)) batch

@@ -15,7 +15,8 @@ use Rattle.terms.specs.declared.row.PatronRow.{PatronRow}
 use Rattle.terms.specs.declared.row.TitleRow.{TitleRow}
 use Rattle.model.specs.Answers.{answer}
 use Rattle.model.specs.Asking.{asked, listed, copies_list, queue_list, account_list, overdue_list, shelf_list, pulls_list, transits_list}
-use Rattle.model.specs.History.{History, branch_of, copy_of, patron_of, title_of}
+use Rattle.model.specs.Asking.{closed_days_list, rules_list, loans_list}
+use Rattle.model.specs.History.{History, branch_of, kind_of, copy_of, patron_of, title_of}
 use Rattle.model.specs.Pages.{spaced, title_words}
 use Rattle.model.specs.Picture.{picture}
 use Rattle.model.specs.Checks.{first_failing}
@@ -78,6 +79,10 @@ module _ (H : History) (o : Owner) where
   unfolding answer-of
   rules-answer k after = ap (answer-of UnknownKind (listed (rules_list H k) after)) (none-not-some (kind_of H k))
       ∙ answered (is_some (kind_of H k)) UnknownKind (listed (rules_list H k) after)
+
+  pub loans-answer : (c after : ℕ) → answer H o (Ask (question.Loans c after)) ≡ reply_if (has_copy H c) UnknownCopy (listed (loans_list H c) after)
+  unfolding answer-of
+  loans-answer c after = answered (has_copy H c) UnknownCopy (listed (loans_list H c) after)
 
   pub account-answer : (p after : ℕ) → answer H o (Ask (question.Account p after)) ≡ reply_if (has_patron H p) UnknownPatron (listed (account_list H p) after)
   unfolding answer-of

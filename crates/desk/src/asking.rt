@@ -390,6 +390,45 @@ fn show_rules<S: Alter>(
     }
 }
 
+/// Shows the missing copies. Faults 90, 91, 93.
+fn show_missing_copies<S: Alter>(
+    store: &mut Store<S>,
+    alloc: Global,
+    after: CopyId,
+) -> Result<Reply, Fault>
+    ensures { Learns (IsAnswer (question.MissingCopies after))
+        S.Store store.old store.new result }
+{
+    let text = list_text(
+        store,
+        alloc,
+        &MissingCopies,
+        String::new(alloc),
+        after.number(),
+    )?;
+    Ok(shown(text))
+}
+
+/// Shows the loans ever made of a copy, or 13. Faults 90, 91, 93.
+fn show_loans<S: Alter>(
+    store: &mut Store<S>,
+    alloc: Global,
+    copy: CopyId,
+    after: LoanId,
+) -> Result<Reply, Fault>
+    ensures { Learns (IsAnswer (question.Loans copy after))
+        S.Store store.old store.new result }
+{
+    match store.copy(copy)? {
+        Some(_row) => {
+            let head = String::new(alloc);
+            let text = list_text(store, alloc, &LoansOf { copy }, head, after.number())?;
+            Ok(shown(text))
+        }
+        None => Ok(Reply::Refused(Refusal::UnknownCopy)),
+    }
+}
+
 /// Answers a question, or refuses it. Faults 90, 91, 93.
 pub(crate) fn reply_to_question<S: Alter>(
     store: &mut Store<S>,
@@ -423,5 +462,11 @@ pub(crate) fn reply_to_question<S: Alter>(
         Question::Borrower { patron } => show_borrower(store, alloc, *patron),
         Question::FindPatrons { after, text } => show_found_patrons(store, alloc, *after, text),
         Question::FindTitles { after, text } => show_found_titles(store, alloc, *after, text),
+        Question::Branches { after } => show_branches(store, alloc, *after),
+        Question::ClosedDays { branch, after } => show_closed_days(store, alloc, *branch, *after),
+        Question::Kinds { after } => show_kinds(store, alloc, *after),
+        Question::Rules { kind, after } => show_rules(store, alloc, *kind, *after),
+        Question::MissingCopies { after } => show_missing_copies(store, alloc, *after),
+        Question::Loans { copy, after } => show_loans(store, alloc, *copy, *after),
     }
 }

@@ -1,9 +1,10 @@
-//! The lists of copies, holds, accounts and debts.
+//! The lists of copies, loans, holds, accounts and debts.
 
 ghost use Rattle.std.specs.Prelude.{◌≡◌, ◌==◌, Some, true, is_some, IfOk, string_bytes};
 ghost use Rattle.model.specs.History.{today, has_begun};
 ghost use Rattle.model.specs.Asking.{sort_word, pulled_for};
 ghost use Rattle.model.specs.Picture.{picture};
+ghost use Rattle.model.specs.RowLaws.{missing_copy_words, loan_row_words};
 ghost use Rattle.desk.specs.Answering.{LearnsIf};
 ghost use Rattle.desk.specs.Asking.{queue_words, line_words, charge_words, pull_words};
 ghost use Rattle.desk.specs.Asking.{words_of_loan, IsTitleOfLoan};
@@ -16,8 +17,8 @@ use sqlite::Alter;
 use std::alloc::Global;
 use store::Store;
 use terms::{
-    BranchId, CopyId, CopyRow, Day, Fault, HoldId, HoldRow, LineId, LineRow, LoanId, Memory,
-    PatronId, PatronRow, Sort, TitleId, TitleRow, TransitRow,
+    BranchId, CopyId, CopyRow, Day, Fault, HoldId, HoldRow, LineId, LineRow, LoanId, LoanRow,
+    Memory, PatronId, PatronRow, Sort, TitleId, TitleRow, TransitRow,
 };
 
 /// The copies of a title.
@@ -440,5 +441,123 @@ impl Listed for PullsAt {
         };
         let title = title_row(store, alloc, row.title)?;
         Ok(Some(pull_row(alloc, row.hold, copy, &title)?))
+    }
+}
+
+/// The missing copies.
+#[derive(Clone, Copy)]
+pub(crate) struct MissingCopies;
+
+/// Makes the row of a missing copy, with its title.
+#[tactic(auto, unfolding(model::specs::RowLaws::missing_copy_words))]
+fn missing_copy_row(alloc: Global, row: &CopyRow, title: &TitleRow) -> Result<String, Memory>
+    ensures { IfOk result (λ text. string_bytes text ≡ missing_copy_words row.now title.now) }
+{
+    let CopyRow { copy, home, .. } = row;
+    let TitleRow { title, text } = title;
+    format!(in alloc; "copy {copy} home {home} title {title} {text}")
+}
+
+impl Listed for MissingCopies {
+    ghost use Rattle.std.specs.Prelude.{◌≡◌, Some};
+    ghost use Rattle.terms.specs.declared.row.Condition.TheVariants.{Missing};
+    ghost use Rattle.model.specs.Asking.{missing_copies_list};
+    ghost use Rattle.model.specs.Picture.{picture};
+
+    type Row = CopyRow;
+
+    ghost list = { λ _ H. missing_copies_list H };
+
+    ghost Needs = { λ _ H. Unit {0} };
+
+    ghost number_of = { λ r. r.copy };
+
+    ghost IsRow = { λ _ r H. ((picture H).copies r.copy ≡ Some r) × (r.condition ≡ Missing) };
+
+    fn number(row: &CopyRow) -> u32 {
+        row.copy.number()
+    }
+
+    fn batch<S: Alter>(
+        &self,
+        store: &mut Store<S>,
+        alloc: Global,
+        after: u32,
+    ) -> Result<Vec<CopyRow>, Fault> {
+        store.missing_copies(alloc, CopyId::new(after))
+    }
+
+    fn row_text<S: Alter>(
+        &self,
+        store: &mut Store<S>,
+        alloc: Global,
+        row: &CopyRow,
+    ) -> Result<Option<String>, Fault> {
+        let title = title_row(store, alloc, row.title)?;
+        Ok(Some(missing_copy_row(alloc, row, &title)?))
+    }
+}
+
+/// The loans ever made of a copy.
+#[derive(Clone, Copy)]
+pub(crate) struct LoansOf {
+    pub(crate) copy: CopyId,
+}
+
+/// Makes the row of a loan, with the day it ended, if any.
+#[tactic(auto, unfolding(model::specs::RowLaws::loan_row_words))]
+fn loan_row(alloc: Global, row: &LoanRow) -> Result<String, Memory>
+    ensures { IfOk result (λ text. string_bytes text ≡ loan_row_words row.now) }
+{
+    let LoanRow {
+        loan,
+        patron,
+        made,
+        due,
+        ..
+    } = row;
+    match row.ended {
+        Some(ended) => {
+            format!(in alloc; "loan {loan} patron {patron} made {made} due {due} ended {ended}")
+        }
+        None => format!(in alloc; "loan {loan} patron {patron} made {made} due {due}"),
+    }
+}
+
+impl Listed for LoansOf {
+    ghost use Rattle.std.specs.Prelude.{◌≡◌, Some};
+    ghost use Rattle.model.specs.Asking.{loans_list};
+    ghost use Rattle.model.specs.Picture.{picture};
+
+    type Row = LoanRow;
+
+    ghost list = { λ s H. loans_list H s.copy };
+
+    ghost Needs = { λ s H. Unit {0} };
+
+    ghost number_of = { λ r. r.loan };
+
+    ghost IsRow = { λ s r H. ((picture H).loans r.loan ≡ Some r) × (r.copy ≡ s.copy) };
+
+    fn number(row: &LoanRow) -> u32 {
+        row.loan.number()
+    }
+
+    fn batch<S: Alter>(
+        &self,
+        store: &mut Store<S>,
+        alloc: Global,
+        after: u32,
+    ) -> Result<Vec<LoanRow>, Fault> {
+        store.loans_of_copy(alloc, self.copy, LoanId::new(after))
+    }
+
+    fn row_text<S: Alter>(
+        &self,
+        _store: &mut Store<S>,
+        alloc: Global,
+        row: &LoanRow,
+    ) -> Result<Option<String>, Fault> {
+        Ok(Some(loan_row(alloc, row)?))
     }
 }

@@ -87,3 +87,10 @@ pub returns-in-Rules : goal.returns-in-Rules
 returns-in-Rules g c = learns-on c.show_rules.ensures (λ _ _ _. tt) (λ H legal given reply is owner. is owner
     ∙ sym (ap (λ q. answer H owner (Ask q)) c.in-Rules.is))
 
+pub returns-in-MissingCopies : goal.returns-in-MissingCopies
+returns-in-MissingCopies g c = learns-on c.show_missing_copies.ensures (λ _ _ _. tt) (λ H legal given reply is owner. is owner
+    ∙ sym (ap (λ q. answer H owner (Ask q)) c.in-MissingCopies.is))
+
+pub returns-in-Loans : goal.returns-in-Loans
+returns-in-Loans g c = learns-on c.show_loans.ensures (λ _ _ _. tt) (λ H legal given reply is owner. is owner
+    ∙ sym (ap (λ q. answer H owner (Ask q)) c.in-Loans.is))
