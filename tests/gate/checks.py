@@ -456,6 +456,135 @@ find-titles 0 Σειρά -> title 410 Σειρά / end
 find-titles 0 σειρά -> end
 LETTERS
 
+# missing copies, and the loans of a copy
+missing-copies 0 -> end
+loans 10 0 -> end
+loans 99 0 -> refused 13
+loans 0 0 -> refused 13
+check-out 1 10 1 -> loan 1 due 2026-03-09
+loans 10 0 -> loan 1 patron 1 made 2026-03-02 due 2026-03-09 / end
+loans 11 0 -> end
+missing 20 -> ok
+missing 30 -> ok
+missing-copies 0 -> copy 20 home 2 title 200 Salt Roads / copy 30 home 1 title 300 Night Ferries / end
+missing-copies 20 -> copy 30 home 1 title 300 Night Ferries / end
+missing-copies 30 -> end
+missing-copies 4294967295 -> end
+check-in 20 2 -> fine 0 shelf 2
+missing-copies 0 -> copy 30 home 1 title 300 Night Ferries / end
+withdraw 30 -> ok
+missing-copies 0 -> end
+begin-day 2026-03-10 -> ok
+check-in 10 1 -> fine 20 shelf 1
+loans 10 0 -> loan 1 patron 1 made 2026-03-02 due 2026-03-09 ended 2026-03-10 / end
+check-out 3 11 1 -> loan 2 due 2026-03-16
+check-out 2 10 1 -> loan 3 due 2026-03-16
+renew 3 -> loan 3 due 2026-03-23
+loans 10 0 -> loan 1 patron 1 made 2026-03-02 due 2026-03-09 ended 2026-03-10 / loan 3 patron 2 made 2026-03-10 due 2026-03-23 / end
+loans 10 1 -> loan 3 patron 2 made 2026-03-10 due 2026-03-23 / end
+loans 10 3 -> end
+loans 10 4294967295 -> end
+missing 10 -> fine 0 price 2500
+loans 10 1 -> loan 3 patron 2 made 2026-03-10 due 2026-03-23 ended 2026-03-10 / end
+missing-copies 0 -> copy 10 home 1 title 100 Rivers of the North / end
+rehome 10 2 -> ok
+amend-title 100 'Rivers of the South' -> ok
+missing-copies 0 -> copy 10 home 2 title 100 Rivers of the South / end
+withdraw 10 -> ok
+missing-copies 0 -> end
+loans 10 2 -> loan 3 patron 2 made 2026-03-10 due 2026-03-23 ended 2026-03-10 / end
+
+# what is set: branches, kinds and rules as they are now
+branches 0 -> branch 1 pickup 5 week ooooooc name Main / branch 2 pickup 3 week coooooc name Harbour / end
+branches 1 -> branch 2 pickup 3 week coooooc name Harbour / end
+branches 2 -> end
+kinds 0 -> kind 1 loans 5 holds 5 debt 500 / end
+kinds 1 -> end
+rules 1 0 -> rule 1 1 period 6 renewals 1 rate 20 cap 100 grace 0 / rule 1 2 period 12 renewals 1 rate 20 cap 100 grace 0 / end
+rules 1 1 -> rule 1 2 period 12 renewals 1 rate 20 cap 100 grace 0 / end
+rules 1 2 -> end
+rules 2 0 -> refused 17
+rules 0 0 -> refused 17
+branch 99 60 'Zoë Quay' -> ok
+branch 30 0 Hill -> ok
+week 2 ooooooo -> ok
+week 99 cccccco -> ok
+amend-branch 1 0 'Main Street' -> ok
+branches 0 -> branch 1 pickup 0 week ooooooc name Main Street / branch 2 pickup 3 week ooooooo name Harbour / branch 30 pickup 0 week ooooooo name Hill / branch 99 pickup 60 week cccccco name Zoë Quay / end
+branches 29 -> branch 30 pickup 0 week ooooooo name Hill / branch 99 pickup 60 week cccccco name Zoë Quay / end
+branches 98 -> branch 99 pickup 60 week cccccco name Zoë Quay / end
+branches 4294967295 -> end
+kind 99 200 0 1000000 -> ok
+kind 2 0 200 0 -> ok
+rules 2 0 -> end
+rule 99 1 365 99 10000 100000 -> ok
+rule 2 99 1 0 0 0 -> ok
+rule 1 3 7 0 0 0 -> ok
+grace 1 1 365 -> ok
+grace 1 2 3 -> ok
+rule 1 2 14 2 30 90 -> ok
+kind 1 6 4 300 -> ok
+kinds 0 -> kind 1 loans 6 holds 4 debt 300 / kind 2 loans 0 holds 200 debt 0 / kind 99 loans 200 holds 0 debt 1000000 / end
+kinds 2 -> kind 99 loans 200 holds 0 debt 1000000 / end
+kinds 99 -> end
+rules 1 0 -> rule 1 1 period 6 renewals 1 rate 20 cap 100 grace 365 / rule 1 2 period 14 renewals 2 rate 30 cap 90 grace 0 / rule 1 3 period 7 renewals 0 rate 0 cap 0 grace 0 / end
+rules 1 2 -> rule 1 3 period 7 renewals 0 rate 0 cap 0 grace 0 / end
+rules 2 0 -> rule 2 99 period 1 renewals 0 rate 0 cap 0 grace 0 / end
+rules 2 98 -> rule 2 99 period 1 renewals 0 rate 0 cap 0 grace 0 / end
+rules 99 0 -> rule 99 1 period 365 renewals 99 rate 10000 cap 100000 grace 0 / end
+
+# as many branches, kinds and rules of a kind as there can be
+counted 97 branch 3 5 Hill -> ok
+branches 2 -> HILLS / end
+counted 98 kind 2 1 2 30 -> ok
+kinds 1 -> KINDS / end
+RULES
+rules 99 0 -> RULED / end
+
+# single closed days after today, by day, whatever the order in which they were closed
+closed-days 9 0 -> refused 10
+closed-days 0 0 -> refused 10
+closed-days 1 0 -> end
+close-day 1 2026-03-10 -> ok
+close-day 1 2199-12-31 -> ok
+close-day 1 2026-03-03 -> ok
+close-day 1 2026-12-24 -> ok
+close-day 2 2026-03-04 -> ok
+closed-days 1 0 -> day 2026-03-03 / day 2026-03-10 / day 2026-12-24 / day 2199-12-31 / end
+closed-days 1 20514 -> day 2026-03-03 / day 2026-03-10 / day 2026-12-24 / day 2199-12-31 / end
+closed-days 1 20515 -> day 2026-03-10 / day 2026-12-24 / day 2199-12-31 / end
+closed-days 1 20521 -> day 2026-03-10 / day 2026-12-24 / day 2199-12-31 / end
+closed-days 1 20522 -> day 2026-12-24 / day 2199-12-31 / end
+closed-days 1 84004 -> day 2199-12-31 / end
+closed-days 1 84005 -> end
+closed-days 1 4294967295 -> end
+closed-days 2 0 -> day 2026-03-04 / end
+open-day 1 2026-12-24 -> ok
+closed-days 1 0 -> day 2026-03-03 / day 2026-03-10 / day 2199-12-31 / end
+begin-day 2026-03-03 -> ok
+closed-days 1 0 -> day 2026-03-10 / day 2199-12-31 / end
+closed-days 1 20513 -> day 2026-03-10 / day 2199-12-31 / end
+begin-day 2026-03-09 -> ok
+closed-days 1 0 -> day 2026-03-10 / day 2199-12-31 / end
+closed-days 2 0 -> end
+begin-day 2190-12-31 -> ok
+closed-days 1 0 -> day 2199-12-31 / end
+
+# more than a hundred closed days, and how the days that come leave exactly a hundred
+close-day 1 2026-03-03 -> ok
+weekly 101 close-day 1 2026-03-09 -> ok
+closed-days 1 0 -> day 2026-03-03 / WEEKS 0 98 / after 21207
+closed-days 1 21207 -> WEEKS 99 100 / end
+closed-days 1 20515 -> WEEKS 0 99 / after 21214
+closed-days 1 20521 -> WEEKS 1 100 / end
+begin-day 2026-03-03 -> ok
+closed-days 1 0 -> WEEKS 0 99 / after 21214
+begin-day 2026-03-09 -> ok
+closed-days 1 0 -> WEEKS 1 100 / end
+close-day 1 2026-03-10 -> ok
+closed-days 1 0 -> day 2026-03-10 / WEEKS 1 99 / after 21214
+closed-days 1 20522 -> WEEKS 1 100 / end
+
 # the hundredth found is the last that is there, and then it isn't
 counted 100 patron 1001 1 cardkey00009 'Zoë Sand' -> ok
 find-patrons 0 'sand zoe' -> FOUND / end
@@ -467,8 +596,18 @@ find-patrons 1100 'sand zoe' -> end
 counted 101 acquire 1001 500 1 1 900 Charts -> ok
 copies 500 0 -> title 500 Charts / ROWS / after 1100
 copies 500 1100 -> title 500 Charts / copy 1101 shelf 1 / end
+counted 101 missing 1001 -> ok
+missing-copies 0 -> MISSED / after 1100
+missing-copies 1100 -> copy 1101 home 1 title 500 Charts / end
 """.replace("ROWS", " / ".join(f"copy {number} shelf 1" for number in range(1001, 1101)))
+DESK = DESK.replace("MISSED", " / ".join(f"copy {number} home 1 title 500 Charts" for number in range(1001, 1101)))
 DESK = DESK.replace("FOUND", " / ".join(f"patron {number} owed 0 name Zoë Sand" for number in range(1001, 1101)))
+DESK = DESK.replace("HILLS", " / ".join(f"branch {number} pickup 5 week ooooooo name Hill" for number in range(3, 100)))
+DESK = DESK.replace("KINDS", " / ".join(f"kind {number} loans 1 holds 2 debt 30" for number in range(2, 100)))
+DESK = DESK.replace("RULES", "\n".join(f"rule 99 {number} {number} 1 20 100 -> ok" for number in reversed(range(1, 100))))
+DESK = DESK.replace("RULED", " / ".join(f"rule 99 {number} period {number} renewals 1 rate 20 cap 100 grace 0" for number in range(1, 100)))
+DESK = re.sub("WEEKS ([0-9]+) ([0-9]+)", lambda it: " / ".join(
+    f"day {datetime.date(2026, 3, 9) + datetime.timedelta(7 * week)}" for week in range(int(it[1]), int(it[2]) + 1)), DESK)
 
 # Which letters a search takes for one another: as many in a title as its text may have.
 MANY = 32
@@ -580,6 +719,12 @@ card-key 1 cardkey00001 -> ok
 1/cardkey00001 borrower 1 -> refused 81
 1/cardkey00001 find-patrons 0 ann -> refused 81
 1/cardkey00001 find-titles 0 rivers -> refused 81
+1/cardkey00001 branches 0 -> refused 81
+1/cardkey00001 closed-days 1 0 -> refused 81
+1/cardkey00001 kinds 0 -> refused 81
+1/cardkey00001 rules 1 0 -> refused 81
+1/cardkey00001 missing-copies 0 -> refused 81
+1/cardkey00001 loans 10 0 -> refused 81
 """
 
 # The form of the page of a patron with no loan and no hold.
@@ -697,6 +842,7 @@ def forms_of_questions(text):
 
 def has_form(answer, form):
     """Whether a line has a form, in which capitals stand for what differs."""
+    form = form.replace("MASK", "[oc]{7}")
     return re.fullmatch(re.sub("NAME|TEXT", ".*", re.sub(r"\b(?!NAME|TEXT)[A-Z]+\b", "[0-9-]+", form)), answer)
 
 
@@ -716,7 +862,7 @@ def main():
     table, desks, patrons = commands(), lists_of(DESK), lists_of(PATRONS)
     check("the commands of the table", list(table), list(WORDS))
     none_is_left_out([line for lines in desks for _, line in lines], table)
-    check("lists that go on", sum(line.answer.endswith("\nafter 1100") for lines in desks for _, line in lines), 2)
+    check("lists that go on", sum(re.search(r"\nafter \d+$", line.answer) is not None for lines in desks for _, line in lines), 7)
     check("the letters of the rules in plain Python", "".join(LETTERS), RULED_LETTERS)
     bare = {marked: unicodedata.normalize("NFD", marked)[0].lower() for marked in "".join(MARKED)}
     wrong = [marked for marked, plain in zip("".join(MARKED), "".join(LETTERS)) if bare[marked].isascii() and bare[marked] != plain]

@@ -111,6 +111,9 @@ REFUSALS = [
     (["pulls", "9", "0"], 10),
     (["transits", "9", "0"], 10),
     (["borrower", "9"], 11),
+    (["closed-days", "9", "0"], 10),
+    (["rules", "9", "0"], 17),
+    (["loans", "99", "0"], 13),
 ]
 
 
@@ -218,8 +221,29 @@ BAD_REQUESTS = [
     ["find-patrons", "0", " ann"],
     ["find-patrons", "0", "ann", "bell"],
     ["find-patrons", "4294967296", "ann"],
-    ["find-titles", "0", "-x"],
-    ["find-titles", "0", "x" * 121],
+    ["find-patrons", "0", "-x"],
+    ["find-patrons", "0", "x" * 121],
+    ["branches"],
+    ["branches", "00"],
+    ["branches", "0", "0"],
+    ["closed-days", "1"],
+    ["closed-days", "1", "2026-03-03"],
+    ["closed-days", "1", "0", "0"],
+    ["closed-days", "1", "-1"],
+    ["closed-day", "1", "0"],
+    ["kinds"],
+    ["kinds", "4294967296"],
+    ["kinds", "0", "0"],
+    ["rules", "1"],
+    ["rules", "1", "1", "0"],
+    ["rules", "one", "0"],
+    ["missing-copies"],
+    ["missing-copies", "-1"],
+    ["missing-copies", "0", "0"],
+    ["missing-copy", "0"],
+    ["loans", "10"],
+    ["loans", "10", "01"],
+    ["loans", "10", "0", "0"],
 ]
 
 

@@ -23,6 +23,7 @@ from concurrent.futures import ThreadPoolExecutor
 import room  # finds lib and reference
 from lib import runs
 from lib.checking import check, part, run_script
+from lib.questions import every_question
 from lib.runs import GROUND, rows, timed
 from lib.serving import ANN, ANNS_PAGE, BO, FAILED, HOLD, PAGE_OF_ANN, Serving, a_library, answer, by_patron, everything, hold_with, is_let_go, told
 from reference.desk_rules import Library
@@ -193,8 +194,8 @@ def a_corrected_title(town, workers):
             check(f"{words}", asked(serving, 0, f"e{turn}", words), told(library.handle(f"e{turn}", words)))
             for patron in PATRONS:
                 check(f"the page of {patron} after {words}", page_of(serving, patron), page_by(library, patron))
-            found = ["find-titles", "0", f"edition-{turn}"]
-            check(f"{found}", asked(serving, 0, f"f{turn}", found), told(library.handle("", found)))
+            copies = ["copies", words[1], "0"]
+            check(f"{copies}", asked(serving, 0, f"f{turn}", copies), told(library.handle("", copies)))
     runs.the_rows_are(path, library)
 
 
@@ -392,15 +393,18 @@ def lending_of(patron):
         yield f"{key}l", ["rehome", number, "1"]
         yield f"{key}m", ["amend-patron", other, "1", f"Reader-{turn}"]
         yield f"{key}n", ["check-in", number, "1"]
+        # settings, of which none changes what the others are answered
+        yield f"{key}o", ["close-day", "2", f"2027-{patron:02}-{1 + turn:02}"]
+        yield f"{key}p", ["amend-branch", "2", "3", f"Harbour-{turn}"]
+        yield f"{key}q", ["kind", str(90 + patron), str(turn), "0", "0"]
+        yield f"{key}r", ["rule", str(90 + patron), str(1 + turn), "7", "0", "0", "0"]
     yield f"q{patron}-renew", ["renew", on_loan]
 
 
 def asked_of(patron, turn):
-    """What another clerk asks meanwhile about that patron, the title and the branches."""
-    number, other = str(TITLES[patron]), str(patron + 4)
-    return [["copy", number], ["copies", number, "0"], ["queue", number, "0"], ["account", other, "0"], ["debts", "0"], ["shelf", str(1 + turn % 2), "0"], ["pulls", "1", "0"],
-            ["transits", "2", "0"], ["till", ("2026-03-02", "2026-03-20")[turn // 14 % 2]], ["overdue", "1", "0"], ["today"], ["borrower", other], ["find-titles", "0", "edition"],
-            ["find-patrons", "0", "reader"]][turn % 14]
+    """What another clerk asks meanwhile about that patron, the title, the branches and the settings."""
+    number, other, lap = str(TITLES[patron]), str(patron + 4), turn // 20 % 2
+    return every_question(P=other, C=number, B=str(1 + (turn + lap) % 2), T=number, K=str(90 + patron), N=("2026-03-02", "2026-03-20")[lap], A="0", F="e")[turn % 20]
 
 
 class Seen:

@@ -17,6 +17,7 @@ import tempfile
 
 from room import TOP
 from lib.checking import check, part, run_script
+from lib.questions import every_question
 from lib.runs import CIRC, GROUND, answers, rows, say, status_of, the_rows_are, type_page
 from reference.desk_rules import Library
 from reference.outer_forms import WORDS
@@ -141,7 +142,7 @@ def movements(folder):
         ("c7", ["unshelve-cancelled", "3"], "transit 1"),
     ])
     check("transits", rows(path, "SELECT * FROM transits"), [(30, 1, None)])
-    check("conditions", rows(path, "SELECT copy, condition FROM copies"), [(10, 0), (11, 2), (20, 0), (30, 0)])
+    check("conditions", rows(path, "SELECT copy, condition FROM copies ORDER BY copy"), [(10, 0), (11, 2), (20, 0), (30, 0)])
     check("meta", rows(path, "SELECT * FROM meta"), [(1, 3, 20518, 1, 4, 1)])
 
 
@@ -183,7 +184,7 @@ BEGUN = [shlex.join(words) for _, words, _ in GROUND] + [
     "acquire 12 101 1 1 900 'Slow Water'", "check-out 1 10 1", "check-out 1 11 1", "place-hold 2 100 1",
     "place-hold 3 300 1", "check-in 30 1", "place-hold 1 200 1", "check-in 20 1", "begin-day 2026-03-07",
     "check-out 3 12 1", "begin-day 2026-03-12", "missing 11", "pay 1 30", "place-hold-from 1 101 1 2026-03-13",
-    "kind 2 1 1 0", "rule 2 1 3 0 50 200",
+    "kind 2 1 1 0", "rule 2 1 3 0 50 200", "close-day 1 2026-12-24",
 ]
 
 
@@ -200,8 +201,8 @@ CROWDED = [
 
 # What is asked after them, one after a pair; as many as have no divisor in common with the number of requests, so that each comes after each of them.
 AFTER_PAIRS = [
-    "copy 10", "copies 100 0", "queue 100 0", "account 1 0", "debts 0", "overdue 1 0", "shelf 1 0", "pulls 1 0", "pulls 2 0", "transits 1 0", "transits 2 0",
-    "till 2026-03-12", "queue 101 0", "today", "borrower 1", "find-patrons 0 bell", "find-titles 0 riv",
+    *(" ".join(it) for it in every_question(P="1", C="10", B="1", T="100", K="1", N="2026-03-12", A="0", F="r")),
+    "pulls 2 0", "transits 2 0", "queue 101 0",
 ]
 
 

@@ -154,7 +154,7 @@ MANY = 2 * MOST_ROWS + 1
 
 def with_long_lists(library):
     """Adds rows to the rules of a small library, so that each list has so many: a title of many copies in all places, with many holds in its line; many titles, of which each has a copy to be taken
-    for its first hold; loans that are overdue; holds that are ready; copies on their way; and a patron with many lines, and many who owe something. Their numbers rise in an order of their own."""
+    for its first hold; loans that are overdue; holds that are ready; copies on their way; a patron with many lines, and many who owe something; days that are closed; copies that are missing, and one that was lent often. Their numbers rise in an order of their own."""
     mixed = lambda n: n * 97 % MANY
     day = library.today - datetime.timedelta(9)
     tall = 900
@@ -169,6 +169,7 @@ def with_long_lists(library):
         # of each own title a copy on the shelf of branch 1, and one on that of branch 2, which the hold doesn't need
         new_copy(3_000 + n, own)
         new_copy(8_000 + mixed(n), own, home=2)
+        new_copy(9_000 + mixed(n), own, condition="missing")
         for number in (4_000 + n, 5_000 + n, 6_000 + n):
             new_copy(number, tall)
         new_copy(7_000 + n, tall, condition=("present", "missing", "withdrawn")[n % 3])
@@ -183,6 +184,8 @@ def with_long_lists(library):
         library.loans.update({2 * n + 1: loan, 2 * n + 2: {**loan, "copy": 10, "ended": library.today}})
         line = {"day": library.today, "sort": "price", "amount": 10 + n, "loan": 2 * n + 2}
         library.lines += [{**line, "patron": patron}, {**line, "patron": 3}, {**line, "patron": 3, "sort": ("payment", "waiver")[n % 2], "amount": 5, "loan": None}]
+        library.closed[1].add(library.today + datetime.timedelta(1 + 3 * mixed(n)))
+        library.closed[1].add(day - datetime.timedelta(n % 90))
     # a hold whose copy travels for none is in the line behind it
     for n in range(0, MANY, 2):
         library.holds[4 * n + 4]["state"] = "cancelled"
@@ -197,11 +200,14 @@ def put_in(path, library):
                 db.execute(f"INSERT INTO {name} VALUES ({', '.join('?' * len(row))})", row)
 
 
-LONG_LISTS = [["copies", "900"], ["queue", "900"], ["account", "3"], ["debts"], ["overdue", "1"], ["shelf", "2"], ["pulls", "1"], ["pulls", "2"], ["transits", "2"]]
+LONG_LISTS = [["copies", "900"], ["queue", "900"], ["account", "3"], ["debts"], ["overdue", "1"], ["shelf", "2"], ["pulls", "1"], ["pulls", "2"], ["transits", "2"], ["closed-days", "1"],
+              ["missing-copies"], ["loans", "10"]]
 
 
 def number_of(row):
-    """The number of a row of a list: the first in it."""
+    """The number of a row of a list: the first in it, or that of a day."""
+    if row.startswith("day "):
+        return (datetime.date.fromisoformat(row.removeprefix("day ")) - EPOCH).days
     return int(re.search("[0-9]+", row)[0])
 
 
@@ -224,7 +230,7 @@ def walked(path, library, words):
 
 
 def long_lists(folder):
-    """Lists of many rows, part by part: each is that of the rules, from whatever number on it is asked for, and each row is shown once. So it is without the three indexes that came last,
+    """Lists of many rows, part by part: each is that of the rules, from whatever number on it is asked for, and each row is shown once. So it is without the five indexes that came last,
     and with those made by hand."""
     path, library = os.path.join(folder, "lists.db"), Library()
     say(path, GROUND)
@@ -249,7 +255,7 @@ def long_lists(folder):
     shutil.copy(path, old)
     before = rows(old, made)
     write(old, *(f"DROP INDEX {text.split()[2]}" for text in indexes_by_hand()))
-    check("three indexes are gone", len(rows(old, made)), len(before) - 3)
+    check("five indexes are gone", len(rows(old, made)), len(before) - 5)
     for words in LONG_LISTS:
         check(f"{words} without the indexes", walked(old, library, words), walked(path, library, words))
     write(old, *indexes_by_hand())

@@ -14,7 +14,7 @@ import tempfile
 import room  # finds lib and reference
 from lib.checking import check, part, run_script
 from lib.runs import answers, circ, kill_at_work, month, report, rows_now, status_of, the_rows_are, timed, whole
-from reference.desk_rules import QUESTIONS, SEARCHES, Library, folded
+from reference.desk_rules import QUESTIONS, SEARCHES, Library, folded, number
 
 
 # What the month has to have, on rows that the desk made: commands, each with its reply's first word or its refusal.
@@ -28,6 +28,8 @@ IN_THE_MONTH = {
     ("card-key", "ok"), ("card-key", "11"), ("amend-patron", "ok"), ("amend-patron", "11"), ("amend-patron", "17"), ("amend-branch", "ok"), ("amend-branch", "10"), ("amend-branch", "21"),
     ("amend-title", "ok"), ("amend-title", "12"), ("amend-copy", "ok"), ("amend-copy", "13"), ("amend-copy", "21"), ("rehome", "ok"), ("rehome", "10"), ("rehome", "35"), ("patron", "20"), ("acquire", "20"),
     ("today", "today"), ("borrower", "patron"), ("borrower", "11"), ("find-patrons", "patron"), ("find-patrons", "end"), ("find-titles", "title"), ("find-titles", "end"),
+    ("branches", "branch"), ("branches", "end"), ("closed-days", "day"), ("closed-days", "end"), ("closed-days", "10"), ("kinds", "kind"), ("kinds", "end"), ("rules", "rule"), ("rules", "end"), ("rules", "17"),
+    ("missing-copies", "copy"), ("missing-copies", "end"), ("loans", "loan"), ("loans", "end"), ("loans", "13"),
 }
 
 
@@ -54,14 +56,19 @@ class Asker:
         after = [str(self.rng.choice((0, 0, 0, 1, 2, 5, 20, 110, 2**32 - 1)))]
         waited = {hold["title"] for hold in it.holds.values() if hold["state"] == "waiting"}
         owners = {line["patron"] for line in it.lines}
+        lent = {loan["copy"] for loan in it.loans.values()}
+        closing = {branch for branch, days in it.closed.items() if any(day > it.today for day in days)}
         parts = {"copy": lambda: [self.one_of(it.copies)], "copies": lambda: [self.one_of(it.titles), *after],
                  "queue": lambda: [self.one_of(waited if self.rng.random() < 0.8 else it.titles), *after],
                  "account": lambda: [self.one_of(owners if self.rng.random() < 0.8 else it.patrons), *after], "debts": lambda: after,
                  "till": lambda: [str(self.rng.choice([it.today, *(line["day"] for line in it.lines)]))], "today": list, "borrower": lambda: [self.one_of(it.patrons)],
-                 "find-patrons": lambda: [*after, self.sought([row["name"] for row in it.patrons.values()])], "find-titles": lambda: [*after, self.sought(it.titles.values())]}
+                 "find-patrons": lambda: [*after, self.sought([row["name"] for row in it.patrons.values()])], "find-titles": lambda: [*after, self.sought(it.titles.values())],
+                 "branches": lambda: after, "kinds": lambda: after, "rules": lambda: [self.one_of(it.kinds), *after],
+                 "missing-copies": lambda: after, "loans": lambda: [self.one_of(lent if self.rng.random() < 0.8 else it.copies), *after],
+                 "closed-days": lambda: [self.one_of(closing if self.rng.random() < 0.8 else it.branches), str(self.rng.choice((0, 0, number(it.today), number(it.today) + 9, 2**32 - 1)))]}
         words = [name, *parts.get(name, lambda: [self.one_of(it.branches), *after])()]
         answer = it.handle("", words)
-        has_rows = re.search(r"^(copy|hold|line|kind) [0-9]|^today |^patron .*\n(?:.*\n)*end$|^ +[0-9]|^(?:fines|prices|payments|waivers) .*[1-9]", answer, re.MULTILINE) or (
+        has_rows = re.search(r"^(copy|hold|line|kind|branch|rule|day|loan) [0-9]|^today |^patron .*\n(?:.*\n)*end$|^ +[0-9]|^(?:fines|prices|payments|waivers) .*[1-9]", answer, re.MULTILINE) or (
             name in SEARCHES and "\n" in answer)
         self.shown += bool(has_rows)
         self.kinds.update([name] if has_rows else [])

@@ -30,6 +30,7 @@ from room import TOP
 from lib import runs
 from lib.checking import check, part, run_script
 from lib.messages import UNWRITTEN, message
+from lib.questions import FORMS, every_question
 from lib.runs import GROUND, HEADER, PROGRAM, circ, digest, rows, whole
 from lib.serving import (
     ANN, ANNS_PAGE, BO, DESK_KEY, FAILED, HOLD, PAGE_OF_ANN, Serving, a_library, answer, by_patron, everything, free_port, hold_with, is_let_go, started, told,
@@ -197,7 +198,7 @@ def grace_days(folder, workers):
 
 def of_stories():
     """What the stories of the desk's questions and of corrections ask, each as a list: the step, the key, the words and the answer. Those of corrections go on after those of what is found."""
-    paths = [os.path.join(TOP, "tests", "data", "stories", name) for name in ("asking.txt", "corrections.txt")]
+    paths = [os.path.join(TOP, "tests", "data", "stories", name) for name in ("asking.txt", "settings_shown.txt", "corrections.txt")]
     stories = [story for path in paths for story in stories_of(path) if story.is_plain()]
     return [[(step, key, words, "\n".join(step.answer)) for step in story.steps for key, words in step.requests()] for story in stories]
 
@@ -242,22 +243,23 @@ def asking(folder, workers):
 
 # The parts of each question and of each correction, of the small library.
 EXAMPLES = {
-    "copy": ["10"], "copies": ["100", "0"], "queue": ["100", "0"], "account": ["1", "0"], "debts": ["0"], "overdue": ["1", "0"], "shelf": ["1", "0"], "pulls": ["1", "0"], "transits": ["1", "0"],
-    "till": ["2026-03-02"], "today": [], "borrower": ["1"], "find-patrons": ["0", "ann"], "find-titles": ["0", "salt"], "card-key": ["1", "newkey000001"], "amend-patron": ["1", "1", "Ann"],
-    "amend-branch": ["1", "5", "Main"], "amend-title": ["100", "Mine"], "amend-copy": ["10", "1", "0"], "rehome": ["10", "2"],
+    **{name: parts for name, *parts in every_question(P="1", C="10", B="1", T="100", K="1", N="2026-03-02", A="0", F="a")},
+    "card-key": ["1", "newkey000001"], "amend-patron": ["1", "1", "Ann"], "amend-branch": ["1", "5", "Main"], "amend-title": ["100", "Mine"], "amend-copy": ["10", "1", "0"], "rehome": ["10", "2"],
 }
 
 # What is asked at random, of few copies, holds and loans, which get in each other's way. Letters stand for a patron, a copy, a branch, a title, a hold, a loan, a day to come, a number of days, a
 # number from which a list goes on, today, a kind, a name, a card key, and a text to be searched.
 AT_RANDOM = ["check-out P C B", "check-out P C B", "check-out P C B", "check-in C B", "check-in C B", "check-in C B", "check-in C B", "place-hold P T B", "place-hold-from P T B D",
-             "place-hold-from P T B D", "cancel-hold H", "renew L", "unshelve H", "unshelve-cancelled H", "missing C", "begin-day D", "grace 1 1 G", "card-key P Y", "amend-patron P K X", "amend-branch B G X", "amend-title T X", "amend-copy C K 900", "rehome C B"]
-ASKED_AT_RANDOM = ["today", "borrower P", "find-patrons A F", "find-patrons 0 F", "find-titles A F", "copy C", "copy C", "copies T A", "queue T A", "queue T A", "account P A", "debts A", "overdue B A", "shelf B A", "pulls B A", "pulls B A", "transits B A", "till N"]
+             "place-hold-from P T B D", "cancel-hold H", "renew L", "unshelve H", "unshelve-cancelled H", "missing C", "begin-day D", "grace 1 1 G", "card-key P Y", "amend-patron P K X", "amend-branch B G X", "amend-title T X", "amend-copy C K 900", "rehome C B", "S"]
+SET_AT_RANDOM = ["close-day B D", "close-day B D", "open-day B D", "week B M", "kind K 9 9 1000000", "rule K 1 3 2 10 50"]
+ASKED_AT_RANDOM = [*(f"{name} {form}" for name, form in FORMS.items()), "find-patrons 0 F", "copy C", "queue T A", "pulls B A", "closed-days B 0"]
 BEFORE = ["kind 1 9 9 1000000", "kind 2 4 4 1000000", "rule 2 1 9 2 10 50", "acquire 21 200 1 1 1200 'Salt Roads'", "acquire 22 200 1 2 1200 'Salt Roads'", "acquire 31 300 2 2 800 'Night Ferries'"]
 BY_PATRONS = ("place-hold", "place-hold-from", "cancel-hold", "renew")
 NAMES = ["Ann Bell", "Zoë Ærø-Sand", "Åsa Łuć", "Rivers of the North", "7"]
 KEYS = ["cardkey00001", "cardkey00002", "cardkey00003", "newkey000001", "newkey000002"]
+MASKS = ["ooooooc", "coooooc", "ooooooo"]
 SOUGHT = ["n", "BELL an", "asa", "ŁUĆ sa", "zoe aro", "ri th", "7", "s  r"]
-TURNS = 1_500
+TURNS = 2_400
 # What holds with a first day have to meet in these turns: what the state of one was before a request, and after it.
 SHOWN = Counter()  # how often each question was shown rows
 MET = {("waiting", "coming"), ("waiting", "ready"), ("waiting", "cancelled"), ("coming", "ready"), ("ready", "filled"), ("ready", "waiting"), ("ready", "cancelled")}
@@ -291,8 +293,9 @@ class Turns:
         active = [number for number, hold in library.holds.items() if hold["state"] in ("waiting", "ready")]
         values = {"P": draw.choice("123"), "C": draw.choice(sorted(map(str, library.copies))), "B": draw.choice("12"), "T": draw.choice(("100", "200", "300")),
                   "H": str(draw.choice(active or [1])), "L": str(draw.randint(1, len(library.loans) + 1)), "D": str(library.today + datetime.timedelta(draw.choice((1, 1, 2, 3, 9)))), "G": draw.choice("01239"),
-                  "A": draw.choice(("0", "0", "0", "1", "5", "10", "20")), "N": str(library.today), "K": draw.choice("11229"), "X": draw.choice(NAMES), "Y": draw.choice(KEYS), "F": draw.choice(SOUGHT)}
-        return [values.get(it, it) for it in draw.choice(forms).split()]
+                  "A": draw.choice(("0", "0", "0", "1", "5", "10", "20")), "N": str(library.today), "K": draw.choice("11229"), "X": draw.choice(NAMES), "Y": draw.choice(KEYS), "F": draw.choice(SOUGHT), "M": draw.choice(MASKS)}
+        form = draw.choice(forms)
+        return [values.get(it, it) for it in (draw.choice(SET_AT_RANDOM) if form == "S" else form).split()]
 
     def states(self):
         """How each hold with a first day stands."""

@@ -4,7 +4,7 @@ import datetime
 import re
 import sys
 
-from reference.desk_rules import EPOCH, QUESTIONS, Library
+from reference.desk_rules import EPOCH, QUESTIONS, Library, number
 
 REQUESTS = 25
 QUESTIONED = 2  # in a history with questions one comes after each second request
@@ -77,11 +77,18 @@ class Clerk:
         late = [branch for branch in (1, 2) if self.library.overdue_rows(branch)]
         if late and self.rng.random() < 0.4:
             return ["overdue", self.one(*late), "0"]
+        closing = [branch for branch, days in self.library.closed.items() if any(day > self.library.today for day in days)]
+        if closing and self.rng.random() < 0.2:
+            return ["closed-days", self.one(*closing), self.after_day()]
         for _ in range(4):
             words = self.any_question()
             if has_rows(words, self.library.handle("", words)):
                 break
         return words
+
+    def after_day(self):
+        """A number from which a list of days goes on."""
+        return self.one(0, 0, *(number(self.library.today) + days for days in (0, 1, 5)))
 
     def any_question(self):
         one, patron, branch, after = self.one, self.one(1, 2, 3), self.one(1, 1, 2, 2, 9), self.one(0, 0, 0, 1, 2, 10)
@@ -90,6 +97,8 @@ class Clerk:
             ["copy", one(10, 11, 12, 20, 30)], ["copies", title, after], ["queue", title, after], ["account", patron, after], ["debts", after], ["overdue", branch, after],
             ["shelf", branch, after], ["shelf", branch, "0"], ["account", patron, "0"], ["pulls", branch, after], ["pulls", branch, "0"], ["transits", branch, after], ["till", self.day(0, 0, -1, -2)],
             ["today"], ["borrower", patron], ["find-patrons", after, self.rng.choice(("n", "bell an", "ÁNN", "R c", "ozil", "ann-bell"))], ["find-titles", after, self.rng.choice(("R", "s  r", "NoRth", "ŔÓÀD"))],
+            ["branches", one(0, 0, 1, 2)], ["closed-days", branch, self.after_day()], ["kinds", one(0, 0, 1, 2)], ["rules", one(1, 1, 2, 9), one(0, 0, 1, 2)],
+            ["missing-copies", after], ["loans", one(10, 10, 11, 12, 20, 99), one(0, 0, 1, 2)],
         ])
 
     def request(self):

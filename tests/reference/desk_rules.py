@@ -15,7 +15,8 @@ MOST_LOOKED_AT = 5_000  # rows in one search
 
 # What only asks: it looks at no key and keeps none. All but the page are the desk's alone.
 SEARCHES = ("find-patrons", "find-titles")
-QUESTIONS = ("copy", "copies", "queue", "account", "debts", "overdue", "shelf", "pulls", "transits", "till", "today", "borrower", *SEARCHES)
+SETTINGS = ("branches", "closed-days", "kinds", "rules")
+QUESTIONS = ("copy", "copies", "queue", "account", "debts", "overdue", "shelf", "pulls", "transits", "till", "today", "borrower", *SEARCHES, *SETTINGS, "missing-copies", "loans")
 ONLY_ASK = ("page", *QUESTIONS)
 
 # What a patron may send, and of it what names the patron, who may only be the one who asks.
@@ -550,6 +551,37 @@ class Library:
 
     def do_find_titles(self, after, text):
         return self.searched(self.titles, self.title_words, after, text)
+
+    def do_missing_copies(self, after):
+        rows = {n: f"copy {n} home {row['home']} {self.title_words(row['title'])}" for n, row in self.copies.items() if row["condition"] == "missing"}
+        return self.listed([], rows, after)
+
+    def do_loans(self, copy, after):
+        refuse(13, copy not in self.copies)
+        ended = lambda loan: "" if loan["ended"] is None else f" ended {loan['ended']}"
+        rows = {n: f"loan {n} patron {loan['patron']} made {loan['made']} due {loan['due']}{ended(loan)}" for n, loan in self.loans.items() if loan["copy"] == copy}
+        return self.listed([], rows, after)
+
+    # ---- what is set
+
+    def do_branches(self, after):
+        rows = {n: f"branch {n} pickup {row['pickup']} week {row['week']} name {row['name']}" for n, row in self.branches.items()}
+        return self.listed([], rows, after)
+
+    def do_closed_days(self, branch, after):
+        refuse(10, branch not in self.branches)
+        return self.listed([], {number(day): f"day {day}" for day in self.closed[branch] if day > self.today}, after)
+
+    def do_kinds(self, after):
+        rows = {n: f"kind {n} loans {row['loans']} holds {row['holds']} debt {row['debt']}" for n, row in self.kinds.items()}
+        return self.listed([], rows, after)
+
+    def do_rules(self, kind, after):
+        refuse(17, kind not in self.kinds)
+        columns = ("period", "renewals", "rate", "cap", "grace")
+        rows = {copy_kind: f"rule {kind} {copy_kind} " + " ".join(f"{column} {row[column]}" for column in columns)
+                for (of_kind, copy_kind), row in self.rules.items() if of_kind == kind}
+        return self.listed([], rows, after)
 
     # ---- requests
 

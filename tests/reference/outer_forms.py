@@ -95,6 +95,12 @@ WORDS = {
     "borrower": NUMBERS[:1],
     "find-patrons": [is_number, is_name],
     "find-titles": [is_number, is_name],
+    "branches": NUMBERS[:1],
+    "closed-days": NUMBERS[:2],
+    "kinds": NUMBERS[:1],
+    "rules": NUMBERS[:2],
+    "missing-copies": NUMBERS[:1],
+    "loans": NUMBERS[:2],
 }
 
 
