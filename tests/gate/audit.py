@@ -4,7 +4,7 @@
     tests/gate/audit.py            all of it
     tests/gate/audit.py SEED       the random damage by that seed
 
-The three laws stand below once more in plain Python, written from docs/RULES.md (`laws_of`). The damage of `DAMAGE` has answers that were
+The laws stand below once more in plain Python, written from docs/RULES.md (`laws_of`). The damage of `DAMAGE` has answers that were
 worked out by hand, and one damage at least for each case of each law; the random damage is compared with `laws_of` alone.
 """
 
@@ -42,12 +42,20 @@ BUSY = [
     ("b5", ["place-hold-from", "1", "400", "1", "2026-04-01"], "hold 4"),
 ]
 
+# Rows in the tables of older schemas, which stand empty in the newest.
+OLD_RULE = "INSERT INTO rules VALUES ({}, {}, 6, 1, 20, 100)"
+OLD_LOAN = "INSERT INTO loans VALUES ({}, 10, 1, 1, 20514, 20521, 6, 1, 20, 100, 20520)"
+OLD_HOLD = "INSERT INTO holds VALUES ({}, 1, 100, 1, 3, NULL, NULL)"
+
 # What is written into the small library, and the line of its audit.
 ON_THE_GROUND = [
     ([], "sound"),
     (["UPDATE copies SET condition = 1 WHERE copy = 20", "INSERT INTO transits VALUES (20, 1, NULL)"], "unsound claims 20"),
     (["INSERT INTO holds2 VALUES (1, 2, 100, 1, 1, 10, NULL, NULL)", "UPDATE meta SET next_hold = 2"], "unsound binding 1"),
     (["UPDATE patrons SET owed = 1 WHERE patron = 2"], "unsound balance 2"),
+    ([OLD_RULE.format(1, 2)], "unsound numbers rules 2"),
+    ([OLD_LOAN.format(7)], "unsound numbers loans 7"),
+    ([OLD_HOLD.format(3)], "unsound numbers holds 3"),
 ]
 
 LOAN = "INSERT INTO loans3 VALUES ({}, {}, 1, 1, 20529, 20535, 6, 1, 20, 100, NULL, 0)"
@@ -133,6 +141,15 @@ DAMAGE = [
     # claims come before bindings, and these before balances
     (["UPDATE copies SET condition = 1 WHERE copy = 30", "UPDATE holds2 SET limit_day = NULL WHERE hold = 2", "UPDATE patrons SET owed = 0"], "unsound claims 30"),
     (["UPDATE holds2 SET copy = 40 WHERE hold = 3", "UPDATE patrons SET owed = 0"], "unsound binding 3"),
+    # a row in a table of older schemas: the least of the first such table, by the last number of its key, once all laws hold
+    ([OLD_RULE.format(2, 1), OLD_RULE.format(1, 9), OLD_RULE.format(1, 99)], "unsound numbers rules 9"),
+    ([OLD_LOAN.format(2147483647), OLD_LOAN.format(5)], "unsound numbers loans 5"),
+    ([OLD_LOAN.format(2147483647)], "unsound numbers loans 2147483647"),
+    ([OLD_HOLD.format(1), OLD_HOLD.format(2)], "unsound numbers holds 1"),
+    ([OLD_HOLD.format(1), OLD_LOAN.format(2), OLD_RULE.format(1, 3)], "unsound numbers rules 3"),
+    ([OLD_HOLD.format(1), OLD_LOAN.format(2)], "unsound numbers loans 2"),
+    ([OLD_RULE.format(1, 1), "UPDATE patrons SET owed = 51 WHERE patron = 1"], "unsound balance 1"),
+    ([OLD_HOLD.format(9), "DELETE FROM holds"], "sound"),
 ]
 
 # A row past its limits, or tables that no library has, are faults and no findings.
@@ -167,6 +184,11 @@ FAULTS = [
     (["INSERT INTO transits VALUES (0, 1, NULL)"], "fault 93"),
     (["INSERT INTO lines VALUES (-2, 1, 20529, 0, 5, 1)"], "fault 93"),
     (["INSERT INTO kept VALUES (-1, 'k1', 'page 1', 'ok')"], "fault 93"),
+    ([OLD_RULE.format(1, 1), "UPDATE rules SET period = 0"], "fault 93"),
+    ([OLD_LOAN.format(1), "UPDATE loans SET due = 84006"], "fault 93"),
+    ([OLD_LOAN.format(0)], "fault 93"),
+    ([OLD_HOLD.format(1), "UPDATE holds SET state = 5"], "fault 93"),
+    (["DROP TABLE loans"], "fault 91"),
     (["UPDATE meta SET schema = 9"], "fault 93"),
     (["DROP TABLE transits"], "fault 91"),
 ]
@@ -210,6 +232,7 @@ def laws_of(path):
         copies = {copy: (title, condition) for copy, title, condition in read("SELECT copy, title, condition FROM copies")}
         holds = {hold: row for hold, *row in read("SELECT hold, title, branch, state, copy, limit_day FROM holds2")}
         owed, lines = dict(read("SELECT patron, owed FROM patrons")), read("SELECT patron, sort, amount FROM lines")
+        old = {"rules": read("SELECT kind, copy_kind FROM rules"), "loans": read("SELECT loan FROM loans"), "holds": read("SELECT hold FROM holds")}
 
     claims = [copy for copy, ended in loans if ended is None] + [copy for copy, *_ in transits]
     claims += [copy for _, _, state, copy, _ in holds.values() if state == READY and copy is not None]
@@ -238,7 +261,9 @@ def laws_of(path):
         return sum(amount if sort in (FINE, PRICE) else -amount for who, sort, amount in lines if who == patron)
 
     unbalanced = [patron for patron, amount in owed.items() if amount != due(patron)]
-    return f"unsound balance {min(unbalanced)}" if unbalanced else "sound"
+    if unbalanced:
+        return f"unsound balance {min(unbalanced)}"
+    return next((f"unsound numbers {table} {min(keys)[-1]}" for table, keys in old.items() if keys), "sound")
 
 
 def status_of(line):

@@ -18,6 +18,7 @@ SAYINGS = {
     "unsound claims ": "two or more claims are made on the copy with this number, which can only be in one place",
     "unsound binding ": "the hold with this number is not bound to its copy as its state requires",
     "unsound balance ": "the patron with this number doesn't owe the charges less payments and waivers",
+    "unsound numbers ": "this table has a row with this number, though only libraries of older schemas have rows there: restore a backup, or take its rows out with sqlite3",
 }
 BAD = "the row is not copy,title,text,kind,home,price,end, or no row may follow"
 OLDER = "the library has an older schema: make a backup first, then run circ migrate FILE"

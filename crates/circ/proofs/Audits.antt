@@ -1,8 +1,12 @@
 -- What an audit writes, given what was read and found.
-use Rattle.std.proofs.Common.{◌≡◌, inl, inr, refl}
-use Rattle.std.specs.Prelude.{Result, Ok, Err}
+use Rattle.std.proofs.Common.{◌≡◌, inl, inr, refl, sym, ◌∙◌, subst, true≢false}
+use Rattle.std.specs.Prelude.{Result, Ok, Err, Option, Some, None}
+use Rattle.circ_tables.specs.Encoding.{HasPicture}
 use Rattle.store.specs.Library.{Ghosts, Held, State, state, HasCleanDisk, HasTables, IsAsItWas}
 use Rattle.store.specs.Legal.{AnswersLegal}
+use Rattle.store.specs.Older.{IsFirstOldRow, TellsOldRows, HasNoOldRows, HasOldRows}
+use Rattle.store.specs.declared.older.OldRow.{OldRow}
+use Rattle.store.specs.declared.older.OldRow.TheVariants.{Rule, Loan, Hold}
 use Rattle.store.specs.Lists.{AreAuditTables}
 use Rattle.store.specs.Stops.{KeepsPicture, LeavesPicture}
 use Rattle.store.specs.Reads.{Reads, Looked, IsReadable}
@@ -12,6 +16,7 @@ use Rattle.terms.specs.Texts.{fault_number}
 use Rattle.terms.specs.declared.fault.Fault.{Fault}
 use Rattle.terms.specs.declared.fault.Fault.TheVariants.{Stored}
 use Rattle.terms.specs.declared.tables.Tables.{Tables}
+use Rattle.model.specs.History.{History}
 use Rattle.model.specs.Picture.{picture}
 use Rattle.model.proofs.RowRanges.{legal-rows}
 use Rattle.desk.proofs.Sound.{is-readable}
@@ -19,8 +24,8 @@ use Rattle.circ_audit.specs.Sound.{IsSound, IsFirstBroken, Audits}
 use Rattle.circ_audit.specs.declared.auditing.Finding.{Finding}
 use Rattle.circ_audit.specs.declared.auditing.Finding.TheVariants.{Claims, Binding, Balance}
 use Rattle.circ.specs.declared.lines.Exit.TheVariants.{Done, Refused, Faulted}
-use Rattle.circ.specs.Lines.{sound_line, finding_line, fault_line}
-use Rattle.circ.specs.Auditing.{LegalTablesAreSound, SaysOf}
+use Rattle.circ.specs.Lines.{sound_line, finding_line, old_row_line, fault_line}
+use Rattle.circ.specs.Auditing.{LegalTablesAreSound, SaysOf, Reads as ReadsTables}
 use Rattle.circ.proofs.WholeTables.{like_whole, sound_as, broken_as}
 
 -- Sound tables break no law.
@@ -40,23 +45,6 @@ as-read : {A : Type 0} {r : Result A Fault} (old new : State) → Reads old new 
 as-read old new reads disk tables same = record { now = same; left = λ trees may. inl (reads.left disk tables trees may) }
 
 module _ {S : Type 0} (g : Ghosts S) (old new : Held S) where
-  pub says-sound : (tables : Tables) → Looked InLimits AreAuditTables IsReadable g old new (Ok tables) → AnswersLegal g old new (Ok tables)
-      → Audits tables (Ok tt) → SaysOf g old new sound_line Done
-  says-sound tables looked legal audits = inl (record {
-    tables = tables;
-    line_is = refl;
-    exit_is = refl;
-    legal = legal;
-    read = λ disk P limits shown.
-        let found = looked.shown disk P shown limits in
-        let sound = audits.sound.0 refl in (
-          found.0,
-          sound,
-          λ all whole. sound_as tables all (like_whole P all tables whole found.0) sound,
-        );
-    nothing = λ disk had. as-read (state g old) (state g new) looked.reads disk had (looked.reads.answered disk had);
-  })
-
   pub says-unsound : LegalTablesAreSound → (tables : Tables) (finding : Finding)
       → Looked InLimits AreAuditTables IsReadable g old new (Ok tables) → AnswersLegal g old new (Ok tables) → Audits tables (Err finding)
       → SaysOf g old new (finding_line finding) Refused
@@ -81,7 +69,7 @@ module _ {S : Type 0} (g : Ghosts S) (old new : Held S) where
 
   pub says-faulted : (fault : Fault) → Looked InLimits AreAuditTables IsReadable g old new (Err fault)
       → SaysOf g old new (fault_line (fault_number fault)) Faulted
-  says-faulted fault looked = inr (inr (record {
+  says-faulted fault looked = inr (inr (inr (record {
     fault = fault;
     line_is = refl;
     exit_is = refl;
@@ -89,4 +77,105 @@ module _ {S : Type 0} (g : Ghosts S) (old new : Held S) where
     sound = λ disk stored H shows. looked.sound disk (let same : Err fault ≡ Err Stored = cc in same) (picture H) shows.tables.now
         (is-readable H shows.legal shows.forms);
     nothing = λ disk is_open had. as-read (state g old) (state g new) looked.reads disk had (looked.reads.same disk is_open had);
-  }))
+  })))
+
+-- ---- the tables of older schemas, read after those of the laws
+
+-- After a list of accepted requests they are empty.
+none-old : (H : History) (row : OldRow) → IsFirstOldRow (picture H) (Some row) → ⊥
+none-old H (Rule kind) first = true≢false (sym first.1)
+none-old H (Loan loan) first = true≢false (sym first.1.0)
+none-old H (Hold hold) first = true≢false (sym first.2.0)
+
+-- A read that answered, and then another.
+module _ {A B : Type 0} {x : A} {r : Result B Fault} (a b c : State) (one : Reads a b (Ok x)) (two : Reads b c r) where
+  still : HasCleanDisk c → HasTables a.now → b.now ≡ a.now
+  still disk had = one.answered (two.clean disk) had
+
+  tables-still : HasCleanDisk c → HasTables a.now → HasTables b.now
+  tables-still disk had = subst HasTables (sym (still disk had)) had
+
+  none-still : HasCleanDisk c → HasNoOldRows b.now → HasNoOldRows a.now
+  none-still disk none = λ maps holds. subst HasNoOldRows (still disk (maps, holds)) none maps holds
+
+  some-still : HasCleanDisk c → HasOldRows b.now → HasOldRows a.now
+  some-still disk some = λ maps holds. subst HasOldRows (still disk (maps, holds)) some maps holds
+
+  picture-still : HasCleanDisk c → (P : Picture) → HasPicture a.now P → HasPicture b.now P
+  picture-still disk P shown = subst (λ db. HasPicture db P) (sym (still disk (shown.maps, shown.holds))) shown
+
+  pub both-clean : HasCleanDisk c → HasCleanDisk a
+  both-clean disk = one.clean (two.clean disk)
+
+  pub both-left : HasCleanDisk c → (P : Picture) → KeepsPicture a P → LeavesPicture c P
+  both-left disk P keeps = λ trees may.
+      let had : HasTables a.now = (keeps.now.maps, keeps.now.holds) in
+      keeps.left trees (one.left (two.clean disk) had trees (two.left disk (tables-still disk had) trees may))
+
+  as-both : HasCleanDisk c → HasTables a.now → c.now ≡ b.now → IsAsItWas a c
+  as-both disk had same = record {
+    now = same ∙ still disk had;
+    left = λ trees may. inl (one.left (two.clean disk) had trees (two.left disk (tables-still disk had) trees may));
+  }
+
+module _ {S : Type 0} (g : Ghosts S) (old mid new : Held S) (tables : Tables)
+    (looked : Looked InLimits AreAuditTables IsReadable g old mid (Ok tables)) (legal : AnswersLegal g old mid (Ok tables))
+    (audits : Audits tables (Ok tt)) where
+  read-first : (HasCleanDisk (state g new) → HasCleanDisk (state g mid)) → ReadsTables g old new IsSound tables
+  read-first clean disk P limits shown =
+      let found = looked.shown (clean disk) P shown limits in
+      let sound = audits.sound.0 refl in (
+        found.0,
+        sound,
+        λ all whole. sound_as tables all (like_whole P all tables whole found.0) sound,
+      )
+
+  pub says-sound : (o : Option OldRow) → o ≡ None → Looked InLimits IsFirstOldRow IsReadable g mid new (Ok o) → TellsOldRows g mid new (Ok o)
+      → SaysOf g old new sound_line Done
+  says-sound o is found tells = inl (record {
+    tables = tables;
+    line_is = refl;
+    exit_is = refl;
+    legal = λ disk. legal (found.reads.clean disk);
+    read = read-first found.reads.clean;
+    emptied = λ disk. none-still (state g old) (state g mid) (state g new) looked.reads found.reads disk
+        (λ maps holds. (tells disk maps holds).0 is);
+    nothing = λ disk had. as-both (state g old) (state g mid) (state g new) looked.reads found.reads disk had
+        (found.reads.answered disk (tables-still (state g old) (state g mid) (state g new) looked.reads found.reads disk had));
+  })
+
+  pub says-old-row : (row : OldRow) (o : Option OldRow) → o ≡ Some row → Looked InLimits IsFirstOldRow IsReadable g mid new (Ok o)
+      → TellsOldRows g mid new (Ok o) → SaysOf g old new (old_row_line row) Refused
+  says-old-row row o is found tells = inr (inr (inl (record {
+    tables = tables;
+    row = row;
+    line_is = refl;
+    exit_is = refl;
+    legal = λ disk. legal (found.reads.clean disk);
+    read = read-first found.reads.clean;
+    stands = λ disk. some-still (state g old) (state g mid) (state g new) looked.reads found.reads disk
+        (λ maps holds none. let never : Some row ≡ None = sym is ∙ (tells disk maps holds).1 none in cc);
+    first = first;
+    nothing = λ disk had. as-both (state g old) (state g mid) (state g new) looked.reads found.reads disk had
+        (found.reads.answered disk (tables-still (state g old) (state g mid) (state g new) looked.reads found.reads disk had));
+    never = λ disk H shows. none-old H row (first disk (picture H) (legal-rows H shows.legal shows.forms) shows.tables.now);
+  })))
+    where
+      first : HasCleanDisk (state g new) → (P : Picture) → InLimits P → HasPicture (state g old).now P → IsFirstOldRow P (Some row)
+      first disk P limits shown = subst (IsFirstOldRow P) is
+          (found.shown disk P (picture-still (state g old) (state g mid) (state g new) looked.reads found.reads disk P shown) limits).0
+
+  pub says-faulted-later : (fault : Fault) → Looked InLimits IsFirstOldRow IsReadable g mid new (Err fault)
+      → SaysOf g old new (fault_line (fault_number fault)) Faulted
+  says-faulted-later fault found = inr (inr (inr (record {
+    fault = fault;
+    line_is = refl;
+    exit_is = refl;
+    limits = λ disk stored P shown. found.sound disk (let same : Err fault ≡ Err Stored = cc in same) P
+        (picture-still (state g old) (state g mid) (state g new) looked.reads found.reads disk P shown);
+    sound = λ disk stored H shows. found.sound disk (let same : Err fault ≡ Err Stored = cc in same) (picture H)
+        (picture-still (state g old) (state g mid) (state g new) looked.reads found.reads disk (picture H) shows.tables.now)
+        (is-readable H shows.legal shows.forms);
+    nothing = λ disk is_open had. as-both (state g old) (state g mid) (state g new) looked.reads found.reads disk had
+        (found.reads.same disk is_open (tables-still (state g old) (state g mid) (state g new) looked.reads found.reads disk had));
+  })))

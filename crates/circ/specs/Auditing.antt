@@ -1,10 +1,12 @@
 -- What an audit of a library writes, and how the program ends.
-use Rattle.std.specs.Prelude.{◌≡◌, ◌⊎◌, ℕ, List, Option, Result, IfOk, OnErr}
+use Rattle.std.specs.Prelude.{◌≡◌, ◌⊎◌, ℕ, List, Option, Some, Result, IfOk, OnErr}
 use Rattle.std.specs.Io.KnownBytes.{Appends}
 use Rattle.store.specs.Library.{Ghosts, Held, state, IsClean, IsOpen, HasTables, IsAsItWas}
 use Rattle.circ_tables.specs.Encoding.{HasPicture}
 use Rattle.store.specs.Lists.{AreTables, AreAuditTables}
 use Rattle.store.specs.Legal.{HasLegalRows}
+use Rattle.store.specs.Older.{HasNoOldRows, HasOldRows, IsFirstOldRow}
+use Rattle.store.specs.declared.older.OldRow.{OldRow}
 use Rattle.store.specs.Reads.{IsReadable}
 use Rattle.store.specs.Stops.{KeepsPicture, LeavesPicture}
 use Rattle.terms.specs.Limits.{InLimits}
@@ -23,7 +25,7 @@ use Rattle.circ_audit.specs.Sound.{IsSound, IsFirstBroken}
 use Rattle.circ_audit.specs.declared.auditing.Finding.{Finding}
 use Rattle.circ.specs.declared.lines.Exit.{Exit}
 use Rattle.circ.specs.declared.lines.Exit.TheVariants.{Done, Refused, Faulted}
-use Rattle.circ.specs.Lines.{sound_line, finding_line, fault_line}
+use Rattle.circ.specs.Lines.{sound_line, finding_line, old_row_line, fault_line}
 
 -- A legal history leaves tables whose rows satisfy the laws that concern them.
 abbrev pub LegalTablesAreSound : Type 0
@@ -39,7 +41,7 @@ Reads g old new Is tables =
     → AreAuditTables P tables × Is tables × ((all : Tables) → AreTables P all → Is all)
 
 -- The line says that the tables are sound: their rows keep the three laws. Whatever they show, no row of the
--- thirteen tables is damaged, and nothing is changed.
+-- thirteen tables is damaged, the tables of older schemas are empty, and nothing is changed.
 pub record SaysSound {S : Type 0} (g : Ghosts S) (old new : Held S) (line : List ℕ)
     (exit : Exit) : Type 0 where
   pub tables : Tables
@@ -47,6 +49,7 @@ pub record SaysSound {S : Type 0} (g : Ghosts S) (old new : Held S) (line : List
   pub exit_is : exit ≡ Done
   pub legal : IsClean g new → HasLegalRows (state g old).now
   pub read : Reads g old new IsSound tables
+  pub emptied : IsClean g new → HasNoOldRows (state g old).now
   pub nothing : IsClean g new → HasTables (state g old).now → IsAsItWas (state g old) (state g new)
 
 -- The line is a finding: the first law that their rows break. No row of the thirteen tables is damaged, and
@@ -59,6 +62,23 @@ pub record SaysUnsound {S : Type 0} (g : Ghosts S) (old new : Held S) (line : Li
   pub exit_is : exit ≡ Refused
   pub legal : IsClean g new → HasLegalRows (state g old).now
   pub read : Reads g old new (λ rows. IsFirstBroken rows finding) tables
+  pub nothing : IsClean g new → HasTables (state g old).now → IsAsItWas (state g old) (state g new)
+  pub never : IsClean g new → (H : History) → Shows (state g old) H → ⊥
+
+-- The line is a row in a table of older schemas, though the rows keep the three laws: the least row of the
+-- first such table, of each picture within the limits that the tables show. Whatever they show, one of these
+-- tables has a row, no row of the thirteen tables is damaged, and nothing is changed. This never happens if
+-- the tables showed a list of accepted requests.
+pub record SaysOldRow {S : Type 0} (g : Ghosts S) (old new : Held S) (line : List ℕ)
+    (exit : Exit) : Type 0 where
+  pub tables : Tables
+  pub row : OldRow
+  pub line_is : line ≡ old_row_line row
+  pub exit_is : exit ≡ Refused
+  pub legal : IsClean g new → HasLegalRows (state g old).now
+  pub read : Reads g old new IsSound tables
+  pub stands : IsClean g new → HasOldRows (state g old).now
+  pub first : IsClean g new → (P : Picture) → InLimits P → HasPicture (state g old).now P → IsFirstOldRow P (Some row)
   pub nothing : IsClean g new → HasTables (state g old).now → IsAsItWas (state g old) (state g new)
   pub never : IsClean g new → (H : History) → Shows (state g old) H → ⊥
 
@@ -76,11 +96,11 @@ pub record SaysFaulted {S : Type 0} (g : Ghosts S) (old new : Held S) (line : Li
   pub nothing : IsClean g new → IsOpen g new → HasTables (state g old).now
       → IsAsItWas (state g old) (state g new)
 
--- The line says that the tables are sound, or is a finding or fault.
+-- The line says that the tables are sound, or is a finding, a row in a table of older schemas, or a fault.
 abbrev pub SaysOf : {S : Type 0} → Ghosts S → Held S → Held S → List ℕ → Exit → Type 0
 SaysOf g old new line exit =
     SaysSound g old new line exit
-    ⊎ (SaysUnsound g old new line exit ⊎ SaysFaulted g old new line exit)
+    ⊎ (SaysUnsound g old new line exit ⊎ (SaysOldRow g old new line exit ⊎ SaysFaulted g old new line exit))
 
 -- A library was audited, and a line was written.
 pub record SaysAudit {S E : Type 0} (g : Ghosts S) (old new : Held S)

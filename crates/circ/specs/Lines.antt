@@ -7,6 +7,8 @@ use Rattle.terms.specs.Texts.{reply_text}
 use Rattle.terms.specs.declared.limits.TheConstants.{SCHEMA}
 use Rattle.circ_audit.specs.declared.auditing.Finding.{Finding}
 use Rattle.circ_audit.specs.declared.auditing.Finding.TheVariants.{Claims, Binding, Balance}
+use Rattle.store.specs.declared.older.OldRow.{OldRow}
+use Rattle.store.specs.declared.older.OldRow.TheVariants.{Rule, Loan, Hold}
 use Rattle.circ.specs.declared.lines.Exit.{Exit}
 
 -- A reply is its text.
@@ -33,7 +35,7 @@ port_line port = codes "listening on " ++ decimal port ++ 10 ∷ []
 abbrev pub threads_line : List ℕ
 threads_line = codes "fault threads" ++ 10 ∷ []
 
--- The tables keep the three laws of sound tables.
+-- The tables keep the three laws of sound tables, and those of older schemas are empty.
 abbrev pub sound_line : List ℕ
 sound_line = codes "sound" ++ 10 ∷ []
 
@@ -50,6 +52,12 @@ abbrev pub finding_line : Finding → List ℕ
 finding_line (Claims copy) = unsound_line (codes "claims ") copy
 finding_line (Binding hold) = unsound_line (codes "binding ") hold
 finding_line (Balance patron) = unsound_line (codes "balance ") patron
+
+-- A row in a table of older schemas: the table, as SQL names it, and the last number of the row's key.
+abbrev pub old_row_line : OldRow → List ℕ
+old_row_line (Rule kind) = unsound_line (codes "numbers rules ") kind
+old_row_line (Loan loan) = unsound_line (codes "numbers loans ") loan
+old_row_line (Hold hold) = unsound_line (codes "numbers holds ") hold
 
 -- The first bytes went out, then the others.
 abbrev pub AppendsBoth : Option (List ℕ) → Option (List ℕ) → List ℕ → List ℕ → Type 0

@@ -7,12 +7,14 @@ ghost use Rattle.circ.specs.Exits.{status_of, exit_of};
 ghost use Rattle.circ.specs.Lines.{reply_line, fault_line, not_understood_line};
 ghost use Rattle.circ.specs.Lines.{no_network_line, port_line, threads_line, EndsWith};
 ghost use Rattle.circ.specs.Lines.{schema_line, sound_line, unsound_line, finding_line};
+ghost use Rattle.circ.specs.Lines.{old_row_line, no_keys_line};
 ghost use Rattle.terms.specs.Writing.{Writes};
 
 use crate::writing::write_reply;
 use circ_audit::Finding;
 use itoa::Buffer;
 use std::io::Write;
+use store::OldRow;
 pub use terms::WriteFault;
 use terms::{Fault, Reply, SCHEMA, ServiceFault, write_bytes, write_pieces};
 
@@ -183,5 +185,16 @@ pub(crate) fn tell_finding<W: Write>(writer: &mut W, finding: Finding) -> Result
         Finding::Claims(copy) => tell_unsound(writer, b"claims ", copy.number()),
         Finding::Binding(hold) => tell_unsound(writer, b"binding ", hold.number()),
         Finding::Balance(patron) => tell_unsound(writer, b"balance ", patron.number()),
+    }
+}
+/// Writes that a row stands in a table of older schemas. Takes no memory.
+pub(crate) fn tell_old_row<W: Write>(writer: &mut W, row: OldRow) -> Result<Exit, WriteFault>
+    ensures { EndsWith Exit.Refused (old_row_line row)
+        (W.contents writer.old) (W.contents writer.new) result }
+{
+    match row {
+        OldRow::Rule(kind) => tell_unsound(writer, b"numbers rules ", kind.number()),
+        OldRow::Loan(loan) => tell_unsound(writer, b"numbers loans ", loan.number()),
+        OldRow::Hold(hold) => tell_unsound(writer, b"numbers holds ", hold.number()),
     }
 }

@@ -24,3 +24,4 @@ pub mod TableLemmas
 pub mod SingleLemmas
 pub mod KnownLemmas
 pub mod NumberedLemmas
+pub mod OldRuleLemmas

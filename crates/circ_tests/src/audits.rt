@@ -67,6 +67,19 @@ fn tells_what_is_broken(rt: HostRuntime) -> Result<(), Fail> {
 }
 
 #[test]
+fn tells_a_row_of_an_older_schema(rt: HostRuntime) -> Result<(), Fail> {
+    let alloc = rt.alloc();
+    let mut conn = connection(busy(alloc)?);
+    conn.execute(
+        "INSERT INTO holds VALUES (8, 1, 100, 1, 3, NULL, NULL)",
+        &[],
+    )?;
+    let mut store = open(conn)?;
+    let line = ("unsound numbers holds 8\n", Exit::Refused);
+    tells(&rt, alloc, &mut store, line)
+}
+
+#[test]
 fn tells_a_fault_of_the_database(rt: HostRuntime) -> Result<(), Fail> {
     let alloc = rt.alloc();
     let mut store = store_of(busy(alloc)?);

@@ -205,6 +205,11 @@ const SAYINGS: [Phrase; 6] = [
         line: "unsound balance ",
         text: "the patron with this number doesn't owe the charges less payments and waivers",
     },
+    Phrase {
+        line: "unsound numbers ",
+        text: "this table has a row with this number, though only libraries of older schemas have \
+               rows there: restore a backup, or take its rows out with sqlite3",
+    },
 ];
 
 /// Explains a refusal or fault number; none for other numbers.

@@ -1,9 +1,9 @@
 use Rattle.terms.specs.Texts.{fault_number}
 use Rattle.circ.specs.Auditing.{SaysOf}
-use Rattle.circ.specs.Lines.{sound_line, finding_line, fault_line}
+use Rattle.circ.specs.Lines.{sound_line, finding_line, old_row_line, fault_line}
 use Rattle.circ.specs.declared.lines.Exit.TheVariants.{Done, Refused, Faulted}
 use Rattle.circ.proofs.Said.{said-whole, said-cut}
-use Rattle.circ.proofs.Audits.{says-sound, says-unsound, says-faulted, read-left}
+use Rattle.circ.proofs.Audits.{says-sound, says-unsound, says-old-row, says-faulted, says-faulted-later, read-left, both-clean, both-left}
 use Rattle.store.specs.Library.{state}
 use Rattle.circ.proofs.auditing.audit.Goals as goal
 
@@ -18,20 +18,8 @@ returns-in-Err g c = record {
       (says-faulted g.S.Store c.args.store.now c.audit_tables.new.self c.in-Err.fault c.in-Err.ensures.looked) c.tell_fault.ensures.writes.front;
 }
 
-pub returns-in-Ok-audit : goal.returns-in-Ok-audit
-returns-in-Ok-audit g c = record {
-  clean = c.in-Ok.ensures.looked.reads.clean;
-  written = said-whole (SaysOf g.S.Store c.args.store.now c.audit_tables.new.self) c.tell_sound.result _ _ sound_line Done
-      (says-sound g.S.Store c.args.store.now c.audit_tables.new.self c.in-Ok.tables c.in-Ok.ensures.looked c.in-Ok.ensures.legal
-      c.in-Ok-audit.ensures) c.tell_sound.ensures.exit_is c.tell_sound.ensures.writes.all;
-  left = read-left (state g.S.Store c.args.store.now) (state g.S.Store c.audit_tables.new.self) c.in-Ok.ensures.looked.reads;
-  cut = said-cut (SaysOf g.S.Store c.args.store.now c.audit_tables.new.self) c.tell_sound.result _ _ sound_line Done
-      (says-sound g.S.Store c.args.store.now c.audit_tables.new.self c.in-Ok.tables c.in-Ok.ensures.looked c.in-Ok.ensures.legal
-      c.in-Ok-audit.ensures) c.tell_sound.ensures.writes.front;
-}
-
-pub returns : goal.returns
-returns g c = record {
+pub returns-in-Err-audit : goal.returns-in-Err-audit
+returns-in-Err-audit g c = record {
   clean = c.in-Ok.ensures.looked.reads.clean;
   written = said-whole (SaysOf g.S.Store c.args.store.now c.audit_tables.new.self) c.tell_finding.result _ _ (finding_line c.in-Err-audit.finding) Refused
       (says-unsound g.S.Store c.args.store.now c.audit_tables.new.self c.legal_tables_are_sound.ensures c.in-Ok.tables
@@ -42,4 +30,53 @@ returns g c = record {
       (says-unsound g.S.Store c.args.store.now c.audit_tables.new.self c.legal_tables_are_sound.ensures c.in-Ok.tables
       c.in-Err-audit.finding c.in-Ok.ensures.looked c.in-Ok.ensures.legal c.in-Err-audit.ensures)
       c.tell_finding.ensures.writes.front;
+}
+
+pub returns-in-Ok-None : goal.returns-in-Ok-None
+returns-in-Ok-None g c = record {
+  clean = both-clean (state g.S.Store c.args.store.now) (state g.S.Store c.audit_tables.new.self) (state g.S.Store c.old_row.new.self)
+      c.in-Ok.ensures.looked.reads c.in-Ok-None.ensures.looked.reads;
+  written = said-whole (SaysOf g.S.Store c.args.store.now c.old_row.new.self) c.tell_sound.result _ _ sound_line Done
+      (says-sound g.S.Store c.args.store.now c.audit_tables.new.self c.old_row.new.self c.in-Ok.tables c.in-Ok.ensures.looked c.in-Ok.ensures.legal
+      c.in-Ok-audit.ensures c.in-Ok-None.field-0 c.in-Ok-None.field-0-is c.in-Ok-None.ensures.looked c.in-Ok-None.ensures.tells) c.tell_sound.ensures.exit_is c.tell_sound.ensures.writes.all;
+  left = both-left (state g.S.Store c.args.store.now) (state g.S.Store c.audit_tables.new.self) (state g.S.Store c.old_row.new.self)
+      c.in-Ok.ensures.looked.reads c.in-Ok-None.ensures.looked.reads;
+  cut = said-cut (SaysOf g.S.Store c.args.store.now c.old_row.new.self) c.tell_sound.result _ _ sound_line Done
+      (says-sound g.S.Store c.args.store.now c.audit_tables.new.self c.old_row.new.self c.in-Ok.tables c.in-Ok.ensures.looked c.in-Ok.ensures.legal
+      c.in-Ok-audit.ensures c.in-Ok-None.field-0 c.in-Ok-None.field-0-is c.in-Ok-None.ensures.looked c.in-Ok-None.ensures.tells) c.tell_sound.ensures.writes.front;
+}
+
+pub returns-in-Ok-Some : goal.returns-in-Ok-Some
+returns-in-Ok-Some g c = record {
+  clean = both-clean (state g.S.Store c.args.store.now) (state g.S.Store c.audit_tables.new.self) (state g.S.Store c.old_row.new.self)
+      c.in-Ok.ensures.looked.reads c.in-Ok-Some.ensures.looked.reads;
+  written = said-whole (SaysOf g.S.Store c.args.store.now c.old_row.new.self) c.tell_old_row.result _ _ (old_row_line c.in-Ok-Some.row) Refused
+      (says-old-row g.S.Store c.args.store.now c.audit_tables.new.self c.old_row.new.self c.in-Ok.tables c.in-Ok.ensures.looked c.in-Ok.ensures.legal
+      c.in-Ok-audit.ensures c.in-Ok-Some.row c.in-Ok-Some.field-0 c.in-Ok-Some.field-0-is c.in-Ok-Some.ensures.looked
+      c.in-Ok-Some.ensures.tells) c.tell_old_row.ensures.exit_is
+      c.tell_old_row.ensures.writes.all;
+  left = both-left (state g.S.Store c.args.store.now) (state g.S.Store c.audit_tables.new.self) (state g.S.Store c.old_row.new.self)
+      c.in-Ok.ensures.looked.reads c.in-Ok-Some.ensures.looked.reads;
+  cut = said-cut (SaysOf g.S.Store c.args.store.now c.old_row.new.self) c.tell_old_row.result _ _ (old_row_line c.in-Ok-Some.row) Refused
+      (says-old-row g.S.Store c.args.store.now c.audit_tables.new.self c.old_row.new.self c.in-Ok.tables c.in-Ok.ensures.looked c.in-Ok.ensures.legal
+      c.in-Ok-audit.ensures c.in-Ok-Some.row c.in-Ok-Some.field-0 c.in-Ok-Some.field-0-is c.in-Ok-Some.ensures.looked
+      c.in-Ok-Some.ensures.tells) c.tell_old_row.ensures.writes.front;
+}
+
+pub returns : goal.returns
+returns g c = record {
+  clean = both-clean (state g.S.Store c.args.store.now) (state g.S.Store c.audit_tables.new.self) (state g.S.Store c.old_row.new.self)
+      c.in-Ok.ensures.looked.reads c.in-Err-old_row.ensures.looked.reads;
+  written = said-whole (SaysOf g.S.Store c.args.store.now c.old_row.new.self) c.tell_fault-in-Err-old_row.result _ _
+      (fault_line (fault_number c.in-Err-old_row.fault)) Faulted
+      (says-faulted-later g.S.Store c.args.store.now c.audit_tables.new.self c.old_row.new.self c.in-Ok.tables c.in-Ok.ensures.looked
+      c.in-Ok.ensures.legal c.in-Ok-audit.ensures c.in-Err-old_row.fault c.in-Err-old_row.ensures.looked)
+      c.tell_fault-in-Err-old_row.ensures.exit_is c.tell_fault-in-Err-old_row.ensures.writes.all;
+  left = both-left (state g.S.Store c.args.store.now) (state g.S.Store c.audit_tables.new.self) (state g.S.Store c.old_row.new.self)
+      c.in-Ok.ensures.looked.reads c.in-Err-old_row.ensures.looked.reads;
+  cut = said-cut (SaysOf g.S.Store c.args.store.now c.old_row.new.self) c.tell_fault-in-Err-old_row.result _ _
+      (fault_line (fault_number c.in-Err-old_row.fault)) Faulted
+      (says-faulted-later g.S.Store c.args.store.now c.audit_tables.new.self c.old_row.new.self c.in-Ok.tables c.in-Ok.ensures.looked
+      c.in-Ok.ensures.legal c.in-Ok-audit.ensures c.in-Err-old_row.fault c.in-Err-old_row.ensures.looked)
+      c.tell_fault-in-Err-old_row.ensures.writes.front;
 }
