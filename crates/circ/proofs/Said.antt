@@ -1,22 +1,19 @@
 -- What is written, given the words and the desk's answer.
 use Rattle.std.proofs.Common.{◌≡◌, ℕ, List, Option, inl, inr, refl, sym, ◌∙◌, ap, subst}
-use Rattle.std.specs.Prelude.{Result, Ok, Err, OnOk, OnErr, IfOk, IsTrue}
+use Rattle.std.specs.Prelude.{Result, Ok, Err, OnOk, OnErr, IfOk}
 use Rattle.std.specs.List.{join_with_byte}
 use Rattle.std.specs.Io.KnownBytes.{Appends}
-use Rattle.store.specs.Library.{Ghosts, Held, State, state, HasCleanDisk, HasTables, IsAsItWas}
+use Rattle.store.specs.Library.{Ghosts, Held, state}
 use Rattle.terms.specs.Laws.{RequestTextsDiffer}
 use Rattle.terms.specs.Texts.{request_text, fault_number}
 use Rattle.terms.specs.Writing.{AppendsFront}
 use Rattle.terms.specs.declared.command.Command.{Command}
 use Rattle.terms.specs.declared.fault.Fault.{Fault}
-use Rattle.terms.specs.declared.fault.Fault.TheVariants.{Memory, Stored}
-use Rattle.terms.specs.declared.refusal.Refusal.{Refusal}
+use Rattle.terms.specs.declared.fault.Fault.TheVariants.{Memory}
 use Rattle.terms.specs.declared.reply.Reply.{Reply}
-use Rattle.terms.specs.declared.reply.Reply.TheVariants.{Refused as Denied}
-use Rattle.model.specs.History.{History}
-use Rattle.model.specs.Requests.{reply_to, after_one}
+use Rattle.model.specs.Requests.{after_one}
 use Rattle.desk.proofs.Shown.{shows-headline}
-use Rattle.desk.specs.Answering.{Shows, Stays, LeavesOneOf}
+use Rattle.desk.specs.Answering.{Handled}
 use Rattle.front.specs.Understood.{IsUnderstoodAs}
 use Rattle.circ.specs.declared.lines.Exit.{Exit}
 use Rattle.circ.specs.declared.lines.Exit.TheVariants.{Faulted, NotUnderstood}
@@ -34,60 +31,34 @@ pub understood-alone : {E : Type 0} → RequestTextsDiffer → (words : List (Li
 understood-alone differ words (Ok command) p = λ other q. understood-once differ words other command q p
 understood-alone differ words (Err e) p = tt
 
--- what is kept is left
-pub still-left : (s : State) (H K : History) → Shows s H → LeavesOneOf s H K
-still-left s H K shows = λ trees may. let one = shows.tables.left trees may in (one.0, inl one.1, one.2)
-
 module _ {S : Type 0} (g : Ghosts S) (old new : Held S) (key : List ℕ) (words : List (List ℕ)) where
   pub says-reply : (command : Command) (reply : Reply) → IsUnderstoodAs words command → ((other : Command) → IsUnderstoodAs words other → other ≡ command)
-      → (HasCleanDisk (state g new) → (H : History) → Shows (state g old) H
-      → (reply ≡ reply_to H (desk_request key command)) × Shows (state g new) (after_one H (desk_request key command)))
-      → (HasCleanDisk (state g new) → HasTables (state g old).now → (refusal : Refusal) → reply ≡ Denied refusal → IsAsItWas (state g old) (state g new))
+      → Handled (desk_request key command) g old new (Ok reply)
       → Says key words g old new (reply_line reply) (exit_of reply)
-  says-reply command reply understood only answered refused = inl (record {
+  says-reply command reply understood only handled = inl (record {
     command = command;
     reply = reply;
     understood = understood;
     only = only;
     line_is = refl;
     exit_is = refl;
-    replied = answered;
-    headline = λ disk H shows. shows-headline (state g new) (after_one H (desk_request key command)) (answered disk H shows).1;
-    refused = refused;
+    handled = handled;
+    headline = λ disk H shows. shows-headline (state g new) (after_one H (desk_request key command)) (handled.replied disk H shows).1;
   })
 
-  pub says-fault : (command : Command) (fault : Fault) → IsUnderstoodAs words command
-      → (HasCleanDisk (state g new) → fault ≡ Stored → (H : History) → Shows (state g old) H → ⊥)
-      → (HasCleanDisk (state g new) → IsTrue (state g new).is_open → Stays (state g old) (state g new))
-      → (HasCleanDisk (state g new) → IsTrue (state g new).is_open → HasTables (state g old).now → IsAsItWas (state g old) (state g new))
-      → (HasCleanDisk (state g new) → (H : History) → Shows (state g old) H → LeavesOneOf (state g new) H (after_one H (desk_request key command)))
+  pub says-fault : (command : Command) (fault : Fault) → IsUnderstoodAs words command → Handled (desk_request key command) g old new (Err fault)
       → Says key words g old new (fault_line (fault_number fault)) Faulted
-  says-fault command fault understood sound undone nothing left =
-      inr (inl (record {
-        fault = fault;
-        line_is = refl;
-        exit_is = refl;
-        sound = sound;
-        undone = undone;
-        nothing = nothing;
-        left = λ disk H shows. inr
-            (command, understood, left disk H shows);
-        asked = inr (command, understood);
-      }))
+  says-fault command fault understood handled = inr (inl (record {
+    fault = fault;
+    line_is = refl;
+    exit_is = refl;
+    met = inr (record { command = command; understood = understood; handled = handled });
+  }))
 
 -- nothing was touched
 module _ {S : Type 0} (g : Ghosts S) (held : Held S) (key : List ℕ) (words : List (List ℕ)) where
   pub says-no-memory : Says key words g held held (fault_line (fault_number Memory)) Faulted
-  says-no-memory = inr (inl (record {
-    fault = Memory;
-    line_is = refl;
-    exit_is = refl;
-    sound = λ disk stored. let never : ⊥ = cc in absurd never;
-    undone = λ disk is_open H shows. shows;
-    nothing = λ disk is_open there. record { now = refl; left = λ trees may. inl may };
-    left = λ disk H shows. inl (still-left (state g held) H H shows);
-    asked = inl refl;
-  }))
+  says-no-memory = inr (inl (record { fault = Memory; line_is = refl; exit_is = refl; met = inl (refl, refl) }))
 
   pub says-not-understood : ((command : Command) → IsUnderstoodAs words command → ⊥) → Says key words g held held not_understood_line NotUnderstood
   says-not-understood none = inr (inr (record { none = none; line_is = refl; exit_is = refl; same = refl }))

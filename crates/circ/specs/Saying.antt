@@ -1,20 +1,18 @@
 -- What a request given as words gets: a line, how the program ends, and what the tables show.
-use Rattle.std.specs.Prelude.{◌≡◌, ◌⊎◌, ℕ, List, Option, Result, Err, IfOk, OnErr}
+use Rattle.std.specs.Prelude.{◌≡◌, ◌⊎◌, ℕ, List, Option, Result, Ok, Err, IfOk, OnErr}
 use Rattle.std.specs.Io.KnownBytes.{Appends}
-use Rattle.store.specs.Library.{Ghosts, Held, State, state, IsClean, IsOpen, HasTables, IsAsItWas}
+use Rattle.store.specs.Library.{Ghosts, Held, state, IsClean}
 use Rattle.terms.specs.Writing.{AppendsFront}
 use Rattle.terms.specs.declared.command.Caller.TheVariants.{Desk}
 use Rattle.terms.specs.declared.command.Command.{Command}
 use Rattle.terms.specs.declared.command.Request.{Request}
 use Rattle.terms.specs.Texts.{fault_number}
 use Rattle.terms.specs.declared.fault.Fault.{Fault}
-use Rattle.terms.specs.declared.fault.Fault.TheVariants.{Memory, Stored}
-use Rattle.terms.specs.declared.refusal.Refusal.{Refusal}
+use Rattle.terms.specs.declared.fault.Fault.TheVariants.{Memory}
 use Rattle.terms.specs.declared.reply.Reply.{Reply}
-use Rattle.terms.specs.declared.reply.Reply.TheVariants.{Refused as Denied}
 use Rattle.model.specs.History.{History}
-use Rattle.model.specs.Requests.{reply_to, after_one}
-use Rattle.desk.specs.Answering.{Shows, Stays, LeavesOneOf}
+use Rattle.model.specs.Requests.{after_one}
+use Rattle.desk.specs.Answering.{Shows, Handled}
 use Rattle.desk.specs.Running.{ShowsHeadline}
 use Rattle.front.specs.Understood.{IsUnderstoodAs}
 use Rattle.terms.specs.declared.words.WordFault.{WordFault}
@@ -28,9 +26,9 @@ use Rattle.circ.specs.Lines.{reply_line, fault_line, not_understood_line}
 abbrev pub desk_request : List ℕ → Command → Request
 desk_request key command = record { caller = Desk; key = key; command = command }
 
--- The line is the text of a reply to the one command that the words are. If the tables showed a list of
--- accepted requests, it is this list's reply to that command, and the tables show the list after that
--- request, with its headline. A refusal changes nothing, whatever rows the tables have.
+-- The line is the text of a reply to the one command that the words are. The desk handled its request, and
+-- nothing else was done. If the tables showed a list of accepted requests, they show that list's headline
+-- after the request.
 pub record SaysReply {S : Type 0} (key : List ℕ) (words : List (List ℕ))
     (g : Ghosts S) (old new : Held S) (line : List ℕ) (exit : Exit) : Type 0 where
   pub command : Command
@@ -39,37 +37,24 @@ pub record SaysReply {S : Type 0} (key : List ℕ) (words : List (List ℕ))
   pub only : (other : Command) → IsUnderstoodAs words other → other ≡ command
   pub line_is : line ≡ reply_line reply
   pub exit_is : exit ≡ exit_of reply
-  pub replied : IsClean g new → (H : History) → Shows (state g old) H
-      → (reply ≡ reply_to H (desk_request key command))
-      × Shows (state g new) (after_one H (desk_request key command))
+  pub handled : Handled (desk_request key command) g old new (Ok reply)
   pub headline : IsClean g new → (H : History) → Shows (state g old) H
       → ShowsHeadline g new (after_one H (desk_request key command))
-  pub refused : IsClean g new → HasTables (state g old).now → (refusal : Refusal)
-      → reply ≡ Denied refusal → IsAsItWas (state g old) (state g new)
 
--- A stop leaves what shows this list; or that, or the list after the words' request, if they are a command.
-abbrev pub LeavesRequest : List ℕ → List (List ℕ) → State → History → Type 0
-LeavesRequest key words s H =
-    LeavesOneOf s H H
-    ⊎ ((command : Command) × IsUnderstoodAs words command
-    × LeavesOneOf s H (after_one H (desk_request key command)))
+-- The line is a fault, which the desk met at the words' command, and nothing else was done.
+pub record MeetsFault {S : Type 0} (key : List ℕ) (words : List (List ℕ))
+    (g : Ghosts S) (old new : Held S) (fault : Fault) : Type 0 where
+  pub command : Command
+  pub understood : IsUnderstoodAs words command
+  pub handled : Handled (desk_request key command) g old new (Err fault)
 
--- The line is a fault: 90, or one that the command met, which isn't 93 if the tables showed a list of
--- accepted requests. They show what they showed, and nothing is changed, whatever rows they have, if the
--- database is still open; a stop leaves that, or what they would show after the words' request.
+-- The line is a fault: the desk met it, or memory ran out before, and nothing is touched.
 pub record SaysFault {S : Type 0} (key : List ℕ) (words : List (List ℕ))
     (g : Ghosts S) (old new : Held S) (line : List ℕ) (exit : Exit) : Type 0 where
   pub fault : Fault
   pub line_is : line ≡ fault_line (fault_number fault)
   pub exit_is : exit ≡ Faulted
-  pub sound : IsClean g new → fault ≡ Stored → (H : History) → Shows (state g old) H → ⊥
-  pub undone : IsClean g new → IsOpen g new → Stays (state g old) (state g new)
-  pub nothing : IsClean g new → IsOpen g new → HasTables (state g old).now
-      → IsAsItWas (state g old) (state g new)
-  pub left : IsClean g new → (H : History) → Shows (state g old) H
-      → LeavesRequest key words (state g new) H
-  -- unless memory ran out, the words are a command
-  pub asked : (fault ≡ Memory) ⊎ ((command : Command) × IsUnderstoodAs words command)
+  pub met : ((fault ≡ Memory) × (new ≡ old)) ⊎ MeetsFault key words g old new fault
 
 -- The words are no command, and nothing is touched.
 pub record SaysNotUnderstood {S : Type 0} (words : List (List ℕ)) (old new : Held S) (line : List ℕ)

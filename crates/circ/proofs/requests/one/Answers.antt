@@ -40,14 +40,12 @@ returns-in-Ok-handle g c = record {
   written = let words = texts_of c.args.words.now in
       said-whole (Says c.args.key words g.S.Store c.args.desk.now c.handle.new.self) c.tell_reply.result _ _ _ (exit_of c.in-Ok-handle.reply)
       (says-reply g.S.Store c.args.desk.now c.handle.new.self c.args.key words c.in-Ok.command c.in-Ok-handle.reply
-      c.in-Ok.ensures.understood c.in-Ok.ensures.only c.in-Ok-handle.ensures.handled.replied
-      c.in-Ok-handle.ensures.handled.any.refused)
+      c.in-Ok.ensures.understood c.in-Ok.ensures.only c.in-Ok-handle.ensures.handled)
       c.tell_reply.ensures.exit_is c.tell_reply.ensures.writes.all;
   cut = let words = texts_of c.args.words.now in
       said-cut (Says c.args.key words g.S.Store c.args.desk.now c.handle.new.self) c.tell_reply.result _ _ _ (exit_of c.in-Ok-handle.reply)
       (says-reply g.S.Store c.args.desk.now c.handle.new.self c.args.key words c.in-Ok.command c.in-Ok-handle.reply
-      c.in-Ok.ensures.understood c.in-Ok.ensures.only c.in-Ok-handle.ensures.handled.replied
-      c.in-Ok-handle.ensures.handled.any.refused)
+      c.in-Ok.ensures.understood c.in-Ok.ensures.only c.in-Ok-handle.ensures.handled)
       c.tell_reply.ensures.writes.front;
 }
 
@@ -57,13 +55,11 @@ returns g c = record {
   written = let words = texts_of c.args.words.now in
       said-whole (Says c.args.key words g.S.Store c.args.desk.now c.handle.new.self) c.tell_fault.result _ _ _ Faulted
       (says-fault g.S.Store c.args.desk.now c.handle.new.self c.args.key words c.in-Ok.command c.in-Err.fault c.in-Ok.ensures.understood
-      (λ disk stored H shows. c.in-Err.ensures.handled.sound disk (ap Err stored) H shows) c.in-Err.ensures.handled.undone
-      c.in-Err.ensures.handled.any.failed c.in-Err.ensures.handled.left)
+      c.in-Err.ensures.handled)
       c.tell_fault.ensures.exit_is c.tell_fault.ensures.writes.all;
   cut = let words = texts_of c.args.words.now in
       said-cut (Says c.args.key words g.S.Store c.args.desk.now c.handle.new.self) c.tell_fault.result _ _ _ Faulted
       (says-fault g.S.Store c.args.desk.now c.handle.new.self c.args.key words c.in-Ok.command c.in-Err.fault c.in-Ok.ensures.understood
-      (λ disk stored H shows. c.in-Err.ensures.handled.sound disk (ap Err stored) H shows) c.in-Err.ensures.handled.undone
-      c.in-Err.ensures.handled.any.failed c.in-Err.ensures.handled.left)
+      c.in-Err.ensures.handled)
       c.tell_fault.ensures.writes.front;
 }
