@@ -9,3 +9,4 @@ pub mod Auditing
 pub mod Migrating
 pub mod Arguments
 pub mod Sending
+pub mod Outgoing

@@ -20,46 +20,76 @@ const LONGEST_CLOSE: u64 = 1;
 /// How often its remaining input is read and discarded.
 const MOST_DROPPED: u32 = 32;
 
-/// The writer of an answer: one write if it fits into 8 KiB, or in pieces if there is no memory for
-/// a buffer.
-pub enum Outgoing {
-    Buffered(BufWriter<TcpStream>),
-    InPieces(TcpStream),
+/// A writer over another: one write if all fits into 8 KiB, or in pieces if there is no memory for a
+/// buffer.
+enum Buffering<T: Write + Drop> {
+    Buffered(BufWriter<T>),
+    InPieces(T),
 }
 
-impl Outgoing {
-    /// Makes the writer of a connection. None if the stream can't be cloned.
-    fn of(alloc: Global, stream: &TcpStream) -> Option<Outgoing> {
-        match BufWriter::new(alloc, stream.try_clone().ok()?) {
-            Ok(writer) => Some(Outgoing::Buffered(writer)),
-            Err(_) => Some(Outgoing::InPieces(stream.try_clone().ok()?)),
-        }
-    }
-
+impl<T: Write + Drop> Buffering<T> {
     /// Drops it without writing what is still buffered.
     fn let_go(self) {
         match self {
-            Outgoing::Buffered(writer) => {
+            Buffering::Buffered(writer) => {
                 let _ = writer.into_parts();
             }
-            Outgoing::InPieces(_) => {}
+            Buffering::InPieces(_) => {}
         }
     }
 }
 
-impl Write for Outgoing {
+impl<T: Write + Drop> Write for Buffering<T> {
+    ghost use Rattle.circ.specs.Outgoing.{buffering_contents};
+
+    ghost contents = { buffering_contents T.contents };
+
     fn write(&mut self, buf: &[u8]) -> io::Result<usize> {
         match self {
-            Outgoing::Buffered(writer) => writer.write(buf),
-            Outgoing::InPieces(stream) => stream.write(buf),
+            Buffering::Buffered(writer) => writer.write(buf),
+            Buffering::InPieces(writer) => writer.write(buf),
         }
     }
 
     fn flush(&mut self) -> io::Result<()> {
         match self {
-            Outgoing::Buffered(writer) => writer.flush(),
-            Outgoing::InPieces(stream) => stream.flush(),
+            Buffering::Buffered(writer) => writer.flush(),
+            Buffering::InPieces(writer) => writer.flush(),
         }
+    }
+}
+
+/// The writer of an answer.
+pub struct Outgoing {
+    writer: Buffering<TcpStream>,
+}
+
+impl Outgoing {
+    /// Makes the writer of a connection. None if the stream can't be cloned.
+    fn of(alloc: Global, stream: &TcpStream) -> Option<Outgoing> {
+        let writer = match BufWriter::new(alloc, stream.try_clone().ok()?) {
+            Ok(writer) => Buffering::Buffered(writer),
+            Err(_) => Buffering::InPieces(stream.try_clone().ok()?),
+        };
+        Some(Outgoing { writer })
+    }
+
+    /// Drops it without writing what is still buffered.
+    fn let_go(self) {
+        let Outgoing { writer } = self;
+        writer.let_go();
+    }
+}
+
+impl Write for Outgoing {
+    ghost contents = { λ o. ⟦<Buffering<TcpStream> as Write>⟧.contents o.writer };
+
+    fn write(&mut self, buf: &[u8]) -> io::Result<usize> {
+        self.writer.write(buf)
+    }
+
+    fn flush(&mut self) -> io::Result<()> {
+        self.writer.flush()
     }
 }
 
