@@ -32,21 +32,16 @@ with_form line form = with_subcommand line (command_app form.0 (names_in form.1)
 abbrev pub empty_app : App
 empty_app = record { top = record (new_shape (codes "desk")) { no_binary_name = true }; subs = [] }
 
--- The line of these commands.
-abbrev pub line_app : List CommandEntry → App
-line_app forms = fold with_form empty_app forms
+-- The command line of the desk with this command alone.
+abbrev pub desk_app : CommandEntry → App
+desk_app form = with_form empty_app form
 
--- The command line of the desk.
-abbrev pub desk_app : App
-desk_app = line_app commands
-
--- The words are a command's name and a word for each part; none begins with a hyphen.
-pub record HasShape (words : List Text) (parts : List Column) : Type 0 where
-  pub name : Text
+-- The words are the command's name and a word for each part; none begins with a hyphen.
+pub record HasShape (words : List Text) (form : CommandEntry) : Type 0 where
   pub others : List Text
-  pub joined : words ≡ name ∷ others
-  pub known : parts_in commands name ≡ Some parts
-  pub count : length others ≡ length parts
+  pub joined : words ≡ form.0 ∷ others
+  pub known : parts_in commands form.0 ≡ Some form.1
+  pub count : length others ≡ length form.1
   pub plain : list_any begins_with_hyphen words ≡ false
 
 -- The words are all but the first.

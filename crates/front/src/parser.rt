@@ -2,13 +2,13 @@
 
 ghost use Rattle.std.specs.Prelude.{IfOk, map};
 ghost use Rattle.clap.specs.Words.{App};
-ghost use Rattle.terms.specs.Commands.{column, line as form_line};
-ghost use Rattle.front.specs.Line.{command_app, empty_app, line_app, names_in, with_required};
-ghost use Rattle.front.specs.Line.{with_form as with_one_form, IsApp};
+ghost use Rattle.terms.specs.Commands.{column};
+ghost use Rattle.front.specs.Line.{command_app, desk_app, empty_app, names_in, with_required};
+ghost use Rattle.front.specs.Line.{IsApp};
 
 use clap::{Arg, Command as CommandLine};
 use std::alloc::Global;
-use terms::{CommandForm, Memory};
+use terms::{Memory, PartForm};
 
 /// Adds a required positional argument.
 fn with_argument<'a>(
@@ -23,12 +23,16 @@ fn with_argument<'a>(
 }
 
 /// Makes a subcommand with an argument for each part.
-fn subcommand<'a>(alloc: Global, form: CommandForm) -> Result<CommandLine<'a>, Memory>
+fn subcommand<'a>(
+    alloc: Global,
+    name: &'a str,
+    parts: &[PartForm],
+) -> Result<CommandLine<'a>, Memory>
     ensures { IfOk result (λ line. IsApp line
-        (command_app form.name.now (names_in (map column form.parts.now)))) }
+        (command_app name.entry.now (names_in (map column parts.now)))) }
 {
-    let mut line = CommandLine::new(alloc, form.name);
-    for part in form.parts {
+    let mut line = CommandLine::new(alloc, name);
+    for part in parts {
         line = with_argument(alloc, line, part.name)?;
     }
     Ok(line)
@@ -41,25 +45,14 @@ fn empty_line<'a>(alloc: Global) -> CommandLine<'a>
     CommandLine::new(alloc, "desk").no_binary_name(true)
 }
 
-/// Adds a command.
-fn with_form<'a>(
+/// Makes the desk's command line with one command, the one that the words name: `clap` would build
+/// the others and leave them aside.
+pub fn desk_line<'a>(
     alloc: Global,
-    line: CommandLine<'a>,
-    form: CommandForm,
+    name: &'a str,
+    parts: &[PartForm],
 ) -> Result<CommandLine<'a>, Memory>
-    ensures { IfOk result (λ more. (app : App) → IsApp line.entry app
-        → IsApp more (with_one_form app (form_line form))) }
+    ensures { IfOk result (λ line. IsApp line (desk_app (name.entry.now, map column parts.now))) }
 {
-    line.subcommand(subcommand(alloc, form)?)
-}
-
-/// Makes the desk's command line: one level of subcommands.
-pub fn desk_line<'a>(alloc: Global, forms: &[CommandForm]) -> Result<CommandLine<'a>, Memory>
-    ensures { IfOk result (λ line. IsApp line (line_app (map form_line forms.now))) }
-{
-    let mut line = empty_line(alloc);
-    for form in forms {
-        line = with_form(alloc, line, *form)?;
-    }
-    Ok(line)
+    empty_line(alloc).subcommand(subcommand(alloc, name, parts)?)
 }

@@ -15,9 +15,8 @@ use crate::parser::desk_line;
 use clap::error::ErrorKind;
 use clap::{ArgMatches, Error};
 use std::alloc::{AllocError, Global};
-use terms::{
-    Command, PartForm, WordFault, command_forms, commands_are_listed, parts_for, read_command,
-};
+use terms::laws::commands_are_listed;
+use terms::{Command, PartForm, WordFault, parts_for, read_command};
 
 fn has_hyphen(word: &str) -> bool
     ensures { result ≡ begins_with_hyphen word.now }
@@ -39,24 +38,27 @@ fn any_has_hyphen(words: &[String]) -> bool
     false
 }
 
-/// Returns the command's parts, if the words have its shape: a name, one word per part, and no
-/// leading hyphens.
-fn parts_of_words(words: &[String]) -> Option<&'static [PartForm]>
-    ensures some { IfSome result (λ parts. HasShape (texts_of words.now) (map column parts.now)) }
-    ensures none { IfNone result ((said : Said) → IsUnderstoodAs (texts_of words.now) said → ⊥) }
+/// Returns the command's name and parts, if the words have its shape: its name, one word per part,
+/// and no leading hyphens.
+fn form_of_words<'a>(words: &'a [String]) -> Option<(&'a str, &'static [PartForm])>
+    ensures some { IfSome result (λ form. HasShape (texts_of words.entry.now)
+        (form.0.now, map column form.1.now)) }
+    ensures none { IfNone result ((said : Said) → IsUnderstoodAs (texts_of words.entry.now) said
+        → ⊥) }
 {
     commands_are_listed();
-    let [name, others @ ..] = words else {
+    let [first, others @ ..] = words else {
         return None;
     };
-    let parts = parts_for(name.as_str())?;
+    let name = first.as_str();
+    let parts = parts_for(name)?;
     if parts.len() != others.len() {
         return None;
     }
     if any_has_hyphen(words) {
         return None;
     }
-    Some(parts)
+    Some((name, parts))
 }
 
 fn fault_of(error: &Error) -> WordFault
@@ -68,13 +70,22 @@ fn fault_of(error: &Error) -> WordFault
     }
 }
 
-/// Parses the words with `clap`.
-fn matches_of<'a>(alloc: Global, words: &'a [String]) -> Result<ArgMatches<'a>, WordFault>
-    ensures read { IfOk result (λ matches. subcommand_rows_of matches ≡ subcommand_of desk_app
+/// Parses the words with `clap`, as those of this command.
+fn matches_of<'a>(
+    alloc: Global,
+    words: &'a [String],
+    name: &'a str,
+    parts: &[PartForm],
+) -> Result<ArgMatches<'a>, WordFault>
+    ensures read { IfOk result (λ matches. HasShape (texts_of words.entry.now)
+        (name.entry.now, map column parts.now) → subcommand_rows_of matches
+        ≡ subcommand_of (desk_app (name.entry.now, map column parts.now))
         (texts_of words.entry.now)) }
-    ensures refused { result ≡ Err Refused → takes desk_app (texts_of words.entry.now) ≢ true }
+    ensures refused { result ≡ Err Refused
+        → takes (desk_app (name.entry.now, map column parts.now)) (texts_of words.entry.now)
+        ≢ true }
 {
-    let line = desk_line(alloc, command_forms())?;
+    let line = desk_line(alloc, name, parts)?;
     match line.try_get_matches_from(words) {
         Ok(matches) => Ok(matches),
         Err(error) => Err(fault_of(&error)),
@@ -108,14 +119,16 @@ fn words_given<'a>(
 fn words_after_name<'a>(
     alloc: Global,
     words: &'a [String],
+    name: &'a str,
     parts: &[PartForm],
 ) -> Result<Vec<&'a str>, WordFault>
     ensures read { IfOk result (λ given_words. HasShape (texts_of words.entry.now)
-        (map column parts.now) → IsAfterName (texts_of words.entry.now) (texts given_words.items)) }
+        (name.entry.now, map column parts.now)
+        → IsAfterName (texts_of words.entry.now) (texts given_words.items)) }
     ensures refused { result ≡ Err Refused
-        → HasShape (texts_of words.entry.now) (map column parts.now) → ⊥ }
+        → HasShape (texts_of words.entry.now) (name.entry.now, map column parts.now) → ⊥ }
 {
-    let matches = matches_of(alloc, words)?;
+    let matches = matches_of(alloc, words, name, parts)?;
     let Some((_, given)) = matches.subcommand() else {
         return Err(WordFault::NotUnderstood);
     };
@@ -132,12 +145,9 @@ pub fn read_words(alloc: Global, words: &[String]) -> Result<Command, WordFault>
     ensures refused { result ≡ Err Refused → (said : Said)
         → IsUnderstoodAs (texts_of words.now) said → ⊥ }
 {
-    let Some(parts) = parts_of_words(words) else {
+    let Some((name, parts)) = form_of_words(words) else {
         return Err(WordFault::NotUnderstood);
     };
-    let [name, ..] = words else {
-        return Err(WordFault::NotUnderstood);
-    };
-    let given = words_after_name(alloc, words, parts)?;
-    read_command(alloc, name.as_str(), &given)
+    let given = words_after_name(alloc, words, name, parts)?;
+    read_command(alloc, name, &given)
 }
