@@ -4,7 +4,7 @@ use Rattle.std.specs.Fmt.{digits}
 use Rattle.calendar.specs.Days.{day_text, civil_of}
 use Rattle.terms.specs.Callers.{owner_of, owner_number}
 use Rattle.terms.specs.Commands.{commands, parts_in, kind_of}
-use Rattle.terms.specs.Forms.{is_name, is_alphanumeric, is_card_key, is_outside_key, is_key}
+use Rattle.terms.specs.Forms.{is_name, is_alphanumeric, is_card_key, is_outside_key, is_clerk_name, clerk_key, is_clerk_key, is_key}
 use Rattle.terms.specs.Money.{fine_for}
 use Rattle.terms.specs.Texts.{said, mask_text, command_words, request_text, routed_words, refusal_number, fault_number, service_fault_number, reply_words, reply_text}
 use Rattle.terms.specs.declared.command.Caller.TheVariants as caller
@@ -160,7 +160,16 @@ longest_name : map (λ n. is_name (replicate n 65)) (120 ∷ 121 ∷ []) ≡ tru
 unfolding is_name
 longest_name = refl
 
-any_keys : map is_key ([] ∷ codes "a1" ∷ codes "a b" ∷ codes "a_b" ∷ []) ≡ false ∷ true ∷ true ∷ false ∷ []
-unfolding is_outside_key
+clerk_names : map is_clerk_name ([] ∷ codes "a" ∷ codes "Ann2" ∷ codes "ann-2" ∷ replicate 16 65 ∷ replicate 17 65 ∷ [])
+    ≡ false ∷ true ∷ true ∷ false ∷ true ∷ false ∷ []
+unfolding is_clerk_name
+clerk_names = refl
+
+any_keys : map is_key ([] ∷ codes "a1" ∷ codes "r-1" ∷ codes "a b" ∷ codes "a_b" ∷ codes "ann/r-1" ∷ codes "ann/" ∷ codes "/r1" ∷ codes "ann/a/r1" ∷ codes "an-n/r1" ∷ [])
+    ≡ false ∷ true ∷ true ∷ true ∷ false ∷ true ∷ false ∷ false ∷ false ∷ false ∷ []
+unfolding is_outside_key is_clerk_name is_clerk_key
 any_keys = refl
 
+-- The key of a clerk's request tells whose it is.
+clerk_keys : clerk_key (codes "ann") (codes "r1") ≡ codes "ann/r1"
+clerk_keys = refl

@@ -1,7 +1,7 @@
 -- The forms of texts given from outside.
-use Rattle.std.specs.Prelude.{◌≡◌, ℕ, ◌-◌, List, length, slice_index, Bool, true, ◌&&◌, ◌||◌, nat_le, not, ◌==◌, IsUtf8}
-use Rattle.std.specs.List.{list_all}
-use Rattle.terms.specs.declared.limits.TheConstants.{LONGEST_NAME, SHORTEST_CARD_KEY, LONGEST_CARD_KEY, LONGEST_KEY}
+use Rattle.std.specs.Prelude.{◌≡◌, ℕ, ◌-◌, List, ◌∷◌, ◌++◌, length, slice_index, Bool, true, ◌&&◌, ◌||◌, nat_le, not, ◌==◌, IsUtf8}
+use Rattle.std.specs.List.{list_all, before_first, after_first}
+use Rattle.terms.specs.declared.limits.TheConstants.{LONGEST_NAME, SHORTEST_CARD_KEY, LONGEST_CARD_KEY, LONGEST_KEY, LONGEST_CLERK_NAME}
 
 -- a byte allowed in a name: 32 or above, and not 127
 abbrev pub is_plain_byte : ℕ → Bool
@@ -37,9 +37,22 @@ is_outside_key t = nat_le 1 (length t) && (nat_le (length t) LONGEST_KEY && list
 abbrev pub has_no_space : List ℕ → Bool
 has_no_space = list_all (λ b. not (b == 32))
 
--- any key: one from outside, or a text with a space, such as the key of a copies file's row
+-- a clerk's name: 1 to 16 letters and digits
+unfoldable pub is_clerk_name : List ℕ → Bool
+is_clerk_name t = nat_le 1 (length t) && (nat_le (length t) LONGEST_CLERK_NAME && list_all is_alphanumeric t)
+
+-- the key of a clerk's request: the clerk's name, a slash and the key that was given
+abbrev pub clerk_key : List ℕ → List ℕ → List ℕ
+clerk_key name key = name ++ (47 ∷ key)
+
+-- a text of that form: a clerk's name before its first slash, and a key from outside after it
+unfoldable pub is_clerk_key : List ℕ → Bool
+is_clerk_key t = is_clerk_name (before_first (λ b. b == 47) t) && is_outside_key (after_first (λ b. b == 47) t)
+
+-- any key: one from outside, that of a clerk's request, or a text with a space, such as the key of a copies
+-- file's row
 abbrev pub is_key : List ℕ → Bool
-is_key t = is_outside_key t || not (has_no_space t)
+is_key t = is_outside_key t || (is_clerk_key t || not (has_no_space t))
 
 -- a key in UTF-8
 abbrev pub IsKey : List ℕ → Type 0

@@ -1,7 +1,7 @@
 -- The laws of request texts and reply texts.
-use Rattle.std.specs.Prelude.{◌≡◌, ◌<◌, ◌≤◌, ◌^◌, ℕ, true, Some, None, List, [], ◌∷◌, length, IsUtf8}
+use Rattle.std.specs.Prelude.{◌≡◌, ◌<◌, ◌≤◌, ◌^◌, ℕ, true, false, Some, None, List, [], ◌∷◌, length, IsUtf8}
 use Rattle.calendar.specs.Days.{IsDayNumber}
-use Rattle.terms.specs.Forms.{IsName, is_card_key}
+use Rattle.terms.specs.Forms.{IsName, is_card_key, is_clerk_name, is_outside_key, clerk_key}
 use Rattle.terms.specs.declared.limits.TheConstants.{LARGEST_SUM}
 use Rattle.terms.specs.Texts.{Part, Number, Amount, Day, Mask, CardKey, Name, said, request_text, reply_text}
 use Rattle.terms.specs.declared.command.Command.{Command}
@@ -38,6 +38,13 @@ IsCommand command = AreParts (said command).1
 -- Commands with the same request text are the same.
 abbrev pub RequestTextsDiffer : Type 0
 RequestTextsDiffer = (a b : Command) → IsCommand a → IsCommand b → request_text a ≡ request_text b → a ≡ b
+
+-- The keys of clerks' requests: equal ones are of the same clerk and the same given key, and none is a key
+-- from outside.
+pub record ClerkKeysDiffer : Type 0 where
+  pub same : (n m j k : List ℕ) → is_clerk_name n ≡ true → is_clerk_name m ≡ true
+      → clerk_key n j ≡ clerk_key m k → (n ≡ m) × (j ≡ k)
+  pub apart : (n k : List ℕ) → is_outside_key (clerk_key n k) ≡ false
 
 -- The numbers and the day of a routing are in their ranges.
 abbrev pub IsRouted : Routed → Type 0

@@ -3,6 +3,7 @@
 ghost use Rattle.std.specs.Prelude.{◌≡◌, true, false};
 ghost use Rattle.terms.specs.Laws.{IsCommand, IsRouted, IsKept, RequestTextsDiffer};
 ghost use Rattle.terms.specs.Laws.{ReplyTextsDiffer, RequestTextsUtf8, ReplyTextsUtf8};
+ghost use Rattle.terms.specs.Laws.{ClerkKeysDiffer};
 ghost use Rattle.terms.specs.Commands.{CommandsAreListed};
 ghost use Rattle.terms.specs.declared.command.Command.TheVariants.{Ask};
 
@@ -23,6 +24,11 @@ pub fn request_texts_differ()
 /// Kept replies with the same reply text are equal.
 pub fn reply_texts_differ()
     ensures { ReplyTextsDiffer }
+{}
+
+/// Equal keys of clerks' requests are of the same clerk, and none is a key from outside.
+pub fn clerk_keys_differ()
+    ensures { ClerkKeysDiffer }
 {}
 
 /// The request text of every command is UTF-8.

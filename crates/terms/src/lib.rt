@@ -29,8 +29,9 @@ pub use fault::{Fault, ServiceFault};
 pub use form::{CommandForm, PartForm, PartKind, command_forms, parts_for};
 pub use limits::{
     HIGHEST_CAP, HIGHEST_DEBT, HIGHEST_PRICE, HIGHEST_RATE, LARGEST_SUM, LAST_LARGE_NUMBER,
-    LAST_NEXT_NUMBER, LAST_NUMBER, LAST_SMALL_NUMBER, LAST_TODAY, LONGEST_PERIOD, LONGEST_PICKUP,
-    MOST_ALLOWED, MOST_GRACE, MOST_LOOKED_AT, MOST_RENEWALS, MOST_ROWS, SCHEMA,
+    LAST_NEXT_NUMBER, LAST_NUMBER, LAST_SMALL_NUMBER, LAST_TODAY, LONGEST_CARD_KEY,
+    LONGEST_CLERK_NAME, LONGEST_PERIOD, LONGEST_PICKUP, MOST_ALLOWED, MOST_GRACE, MOST_LOOKED_AT,
+    MOST_RENEWALS, MOST_ROWS, SCHEMA,
 };
 pub use money::fine;
 pub use number::{
@@ -47,7 +48,7 @@ pub use row::{
     LineRow, LoanRow, LoanRow1, MetaRow, PatronRow, RuleRow, RuleRow1, Sort, TitleRow, TransitRow,
 };
 pub use tables::{Rows, Tables};
-pub use text::{CardKey, Key, Name, Text};
+pub use text::{CardKey, ClerkName, Key, Name, Text};
 pub use week::Mask;
 pub use words::{WordFault, read_command};
 pub use writing::{WriteFault, write_bytes, write_pieces};

@@ -66,3 +66,6 @@ pub const LONGEST_CARD_KEY: usize = 32;
 
 /// The length of the longest request key from outside.
 pub const LONGEST_KEY: usize = 40;
+
+/// The length of the longest clerk's name.
+pub const LONGEST_CLERK_NAME: usize = 16;

@@ -5,10 +5,13 @@ ghost use Rattle.std.specs.Prelude.{bytes_eq, IsUtf8};
 ghost use Rattle.std.specs.List.{list_all};
 ghost use Rattle.terms.specs.Forms.{is_name, IsName, is_plain_byte, is_card_key, is_alphanumeric};
 ghost use Rattle.terms.specs.Forms.{is_outside_key, is_key_byte, has_no_space, is_key, IsKey};
+ghost use Rattle.terms.specs.Forms.{is_clerk_name, is_clerk_key, clerk_key};
 ghost use Rattle.terms.specs.Texts.{request_text};
 
 use crate::command::{Command, joined_words};
-use crate::limits::{LONGEST_CARD_KEY, LONGEST_KEY, LONGEST_NAME, SHORTEST_CARD_KEY};
+use crate::limits::{
+    LONGEST_CARD_KEY, LONGEST_CLERK_NAME, LONGEST_KEY, LONGEST_NAME, SHORTEST_CARD_KEY,
+};
 use calendar::Memory;
 use std::alloc::Global;
 use std::fmt;
@@ -187,9 +190,73 @@ impl fmt::Display for CardKey {
     }
 }
 
-/// The key of a request. A key from outside has 1 to 40 ASCII letters, digits and hyphens. A row of
-/// a copies file has its own request text as key, which has spaces and so is never a key from
-/// outside.
+/// A clerk's name: 1 to 16 ASCII letters and digits.
+#[derive(Drop)]
+pub struct ClerkName {
+    text: String,
+}
+
+impl Model for ClerkName {
+    ghost use Rattle.std.specs.Prelude.{◌≡◌, ℕ, List, true, string_bytes};
+    ghost use Rattle.terms.specs.Forms.{is_clerk_name};
+
+    ghost Value = { List ℕ };
+
+    ghost view = { λ a. string_bytes a.text };
+
+    ghost invariant = { λ a. is_clerk_name (string_bytes a.text) ≡ true };
+}
+
+#[tactic(auto, unfolding(crate::specs::Forms::is_clerk_name))]
+fn has_clerk_name_form(text: &str) -> bool
+    ensures { result ≡ is_clerk_name text.now }
+{
+    let bytes = text.as_bytes();
+    let len = bytes.len();
+    if len < 1 {
+        return false;
+    }
+    if len > LONGEST_CLERK_NAME {
+        return false;
+    }
+    all_alphanumeric(bytes)
+}
+
+impl ClerkName {
+    /// Reads a clerk's name, if the text is well-formed.
+    pub fn new(alloc: Global, text: &str) -> Result<Option<ClerkName>, Memory>
+        ensures { IfOk result (λ o. MatchOption o (is_clerk_name text.now ≡ false)
+            (λ n. (is_clerk_name text.now ≡ true) × (n ≡ text.now))) }
+    {
+        if has_clerk_name_form(text) {
+            let text = String::from_str(alloc, text)?;
+            Ok(Some(ClerkName { text }))
+        } else {
+            Ok(None)
+        }
+    }
+
+    /// Returns the text.
+    pub fn as_str(&self) -> &str
+        ensures value { result.now ≡ self.now }
+        ensures form { is_clerk_name result.now ≡ true }
+    {
+        let ClerkName { text } = self;
+        text.as_str()
+    }
+
+    /// Compares two names.
+    pub fn is_same(&self, other: &ClerkName) -> bool
+        ensures { result ≡ bytes_eq self.now other.now }
+    {
+        let ClerkName { text } = other;
+        self.text == *text
+    }
+}
+
+/// The key of a request. A key from outside has 1 to 40 ASCII letters, digits and hyphens. The key
+/// of a clerk's request has the clerk's name and a slash before it. A row of a copies file has its
+/// own request text as key, which has spaces. So none of these is ever another.
 #[derive(Drop)]
 pub struct Key {
     text: String,
@@ -233,6 +300,16 @@ fn has_key_form(text: &str) -> bool
     all_key_letters(bytes)
 }
 
+/// Returns whether a text is the key of a clerk's request.
+fn has_clerk_key_form(text: &str) -> bool
+    ensures { result ≡ is_clerk_key text.now }
+{
+    match text.split_once('/') {
+        Some((name, key)) => has_clerk_name_form(name) && has_key_form(key),
+        None => false,
+    }
+}
+
 fn all_without_space(bytes: &[u8]) -> bool
     ensures { result ≡ has_no_space bytes.now }
 {
@@ -261,13 +338,27 @@ impl Key {
         Ok(Key { text })
     }
 
-    /// Reads a stored key, if the text can be one: a key from outside, or a text with a space, like
-    /// the key of a copies file's row.
+    /// Makes the key of a clerk's request from the key that was given; none if that isn't a key from
+    /// outside.
+    pub fn of_clerk(alloc: Global, name: &ClerkName, key: &Key) -> Result<Option<Key>, Memory>
+        ensures { IfOk result (λ o. MatchOption o (is_outside_key key.now ≡ false)
+            (λ k. (is_outside_key key.now ≡ true) × (k ≡ clerk_key name.now key.now))) }
+    {
+        if has_key_form(key.text.as_str()) {
+            let text = format!(in alloc; "{}/{}", name.text.as_str(), key.text.as_str())?;
+            Ok(Some(Key { text }))
+        } else {
+            Ok(None)
+        }
+    }
+
+    /// Reads a stored key, if the text can be one: a key from outside, that of a clerk's request, or
+    /// a text with a space, like the key of a copies file's row.
     pub fn read(alloc: Global, text: &str) -> Result<Option<Key>, Memory>
         ensures { IfOk result (λ o. MatchOption o (is_key text.now ≡ false)
             (λ k. (is_key text.now ≡ true) × (k ≡ text.now))) }
     {
-        if has_key_form(text) || !all_without_space(text.as_bytes()) {
+        if has_key_form(text) || has_clerk_key_form(text) || !all_without_space(text.as_bytes()) {
             let text = String::from_str(alloc, text)?;
             Ok(Some(Key { text }))
         } else {
