@@ -83,7 +83,7 @@ def runs():
         shutil.copytree(f"{TOP}/tests", f"{room}/tests")
         for name in os.listdir(f"{TOP}/crates"):
             for part in ("specs", "proofs", "src"):
-                if name in ("model", "terms", "calendar", "finding"):
+                if name in ("model", "terms", "clerks", "calendar", "finding"):
                     shutil.copytree(f"{TOP}/crates/{name}/{part}", f"{room}/crates/{name}/{part}")
         known = f"{room}/tests/data/definitions_left.txt"
         with open(known, "w", encoding="utf-8") as it:

@@ -41,7 +41,7 @@ class Row:
 
 
 # Where rows stand.
-FILES = ("model/proofs/Rows*", "terms/proofs/Examples", "calendar/proofs/Examples", "finding/proofs/Examples")
+FILES = ("model/proofs/Rows*", "terms/proofs/Examples", "calendar/proofs/Examples", "finding/proofs/Examples", "clerks/proofs/Examples")
 
 
 def rows(program):

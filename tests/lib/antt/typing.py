@@ -16,7 +16,7 @@ SIGNATURES = {
     "list_all": "(a → Bool) → List a → Bool", "sum_by": "(a → ℕ) → List a → ℕ", "length": "List a → ℕ", "replicate": "ℕ → a → List a", "take": "ℕ → List a → List a", "drop": "ℕ → List a → List a",
     "slice_get": "List a → ℕ → Option a", "slice_index_or": "List a → ℕ → a → a", "slice_index": "List ℕ → ℕ → ℕ", "bytes_eq": "List ℕ → List ℕ → Bool",
     "join_with_byte": "ℕ → List (List ℕ) → List ℕ", "slice_split": "(a → Bool) → List a → List (List a)", "chars": "List ℕ → List ℕ", "encode_utf8_all": "List ℕ → List ℕ",
-    "nat_lt": "ℕ → ℕ → Bool", "nat_le": "ℕ → ℕ → Bool", "not": "Bool → Bool", "min": "ℕ → ℕ → ℕ", "max": "ℕ → ℕ → ℕ", "Some": "a → Option a", "None": "Option a", "suc": "ℕ → ℕ", "zero": "ℕ",
+    "before_first": "(a → Bool) → List a → List a", "after_first": "(a → Bool) → List a → List a", "nat_lt": "ℕ → ℕ → Bool", "nat_le": "ℕ → ℕ → Bool", "not": "Bool → Bool", "min": "ℕ → ℕ → ℕ", "max": "ℕ → ℕ → ℕ", "Some": "a → Option a", "None": "Option a", "suc": "ℕ → ℕ", "zero": "ℕ",
     "days_in_month": "ℤ → ℕ → ℕ", "pos": "ℕ → ℤ",
 }
 SIGN_TYPES = {sign: (NAT, NAT, NAT) for sign in "+-*/%^"} | {"==": (NAT, NAT, BOOL), "&&": (BOOL, BOOL, BOOL), "||": (BOOL, BOOL, BOOL)}

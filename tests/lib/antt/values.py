@@ -304,6 +304,23 @@ def less(m, n):
     return m < n
 
 
+def before_first(test, xs):
+    found = []
+    for it in items(xs):
+        if ap(test, it):
+            break
+        found.append(it)
+    return listed(found)
+
+
+def after_first(test, xs):
+    its = list(items(xs))
+    for at, it in enumerate(its):
+        if ap(test, it):
+            return listed(its[at + 1:])
+    return listed([])
+
+
 def at_most(m, n):
     return m <= n
 
@@ -322,5 +339,5 @@ WORDS = {
     "codes": (1, codes), "decimal": (1, decimal), "map": (2, mapped), "flat_map": (2, flat_map), "filter": (2, kept), "find": (2, find), "list_any": (2, list_any), "list_all": (2, list_all),
     "sum_by": (2, sum_by), "length": (1, length), "replicate": (2, replicate), "take": (2, take), "drop": (2, drop), "slice_get": (2, slice_get), "slice_index_or": (3, slice_index_or),
     "slice_index": (2, slice_index), "bytes_eq": (2, bytes_eq), "join_with_byte": (2, join_with_byte), "slice_split": (2, slice_split), "chars": (1, chars), "encode_utf8_all": (1, encode_utf8_all),
-    "days_in_month": (2, days_in_month), "nat_lt": (2, less), "nat_le": (2, at_most), "not": (1, negated), "min": (2, min), "max": (2, max), "pos": (1, same),
+    "days_in_month": (2, days_in_month), "nat_lt": (2, less), "nat_le": (2, at_most), "not": (1, negated), "min": (2, min), "before_first": (2, before_first), "after_first": (2, after_first), "max": (2, max), "pos": (1, same),
 }
