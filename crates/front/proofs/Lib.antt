@@ -6,3 +6,6 @@ pub mod Shapes
 pub mod CopyRows
 pub mod CopyFiles
 pub mod CopyExamples
+pub mod KeyLines
+pub mod KeyFiles
+mod KeyExamples

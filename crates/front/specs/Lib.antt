@@ -1,4 +1,6 @@
 pub mod Copies
 pub mod CopyReading
+pub mod KeyReading
+pub mod Keys
 pub mod Line
 pub mod Understood
