@@ -7,6 +7,7 @@ use Rattle.terms.specs.declared.command.Request.{Request as Requested}
 use Rattle.terms.specs.declared.fault.Fault.TheVariants.{Memory}
 use Rattle.terms.specs.declared.fault.ServiceFault.TheVariants.{Met}
 use Rattle.web.specs.Answers.{answer_bytes}
+use Rattle.clerks.specs.declared.clerk.Clerk.{Clerk}
 use Rattle.web.specs.Asked.{asked_of}
 use Rattle.web.specs.Checks.{Reading, UnlessFaulted, ChecksHead}
 use Rattle.web.specs.declared.answer.Answer.{Answer}
@@ -27,18 +28,18 @@ read-status None r status e h = tt
 read-status (Some all) r status e h = subst (λ (x : Reading). UnlessFaulted x (ChecksHead all x)) e h
 
 -- What was submitted, if anything was.
-abbrev Once : List ℕ → Option (List ℕ) → Working → Working → Type 0
-Once desk_key bytes old new = (new.post ≡ old.post)
+abbrev Once : List Clerk → Option (List ℕ) → Working → Working → Type 0
+Once clerks bytes old new = (new.post ≡ old.post)
     ⊎ ((request : Requested) × (web : WebRequest) × IfSome bytes (λ all. ChecksHead all (Ok web))
-    × (asked_of desk_key web ≡ Request request) × (page_asked request ≡ None) × Submits old.post new.post request)
+    × (asked_of clerks web ≡ Request request) × (page_asked request ≡ None) × Submits old.post new.post request)
 
-asked-once : (desk_key : List ℕ) (bytes : Option (List ℕ)) (old new : Working) (web : WebRequest) (asked : Asked) → asked ≡ asked_of desk_key web
-    → IfSome bytes (λ all. ChecksHead all (Ok web)) → SubmitsAsked asked old.post new.post → Once desk_key bytes old new
-asked-once desk_key bytes old new web Nothing is read same = inl same
-asked-once desk_key bytes old new web (Page patron card_key) is read same = inl same
-asked-once desk_key bytes old new web (Request request) is read h = by (page_asked request) refl h
+asked-once : (clerks : List Clerk) (bytes : Option (List ℕ)) (old new : Working) (web : WebRequest) (asked : Asked) → asked ≡ asked_of clerks web
+    → IfSome bytes (λ all. ChecksHead all (Ok web)) → SubmitsAsked asked old.post new.post → Once clerks bytes old new
+asked-once clerks bytes old new web Nothing is read same = inl same
+asked-once clerks bytes old new web (Page patron card_key) is read same = inl same
+asked-once clerks bytes old new web (Request request) is read h = by (page_asked request) refl h
   where
-    by : (o : Option ℕ) → page_asked request ≡ o → SubmitsFor o request old.post new.post → Once desk_key bytes old new
+    by : (o : Option ℕ) → page_asked request ≡ o → SubmitsFor o request old.post new.post → Once clerks bytes old new
     by (Some patron) asks same = inl same
     by None asks (inl same) = inl same
     by None asks (inr more) = inr (request, web, read, sym is, asks, more)
@@ -48,8 +49,8 @@ still None = tt
 still (Some xs) = refl
 
 -- no answer went out
-module _ {E : Type 0} (desk_key : List ℕ) (bytes : Option (List ℕ)) (old new : Working) (before : Option (List ℕ)) (e : E) where
-  pub unread : new ≡ old → Serves desk_key bytes old new before before (Err e)
+module _ {E : Type 0} (clerks : List Clerk) (bytes : Option (List ℕ)) (old new : Working) (before : Option (List ℕ)) (e : E) where
+  pub unread : new ≡ old → Serves clerks bytes old new before before (Err e)
   unread same = record {
     on = subst (λ (w : Working). GoesOn w.seen old.seen) (sym same) (goes_self old.seen);
     closing = subst (λ (w : Working). StartsWith w.closing old.closing) (sym same) (starts_self old.closing);
@@ -58,51 +59,51 @@ module _ {E : Type 0} (desk_key : List ℕ) (bytes : Option (List ℕ)) (old new
     broken = inl (still before);
   }
 
-  pub unanswered : (web : WebRequest) (asked : Asked) (met : Option Answer) → asked ≡ asked_of desk_key web
-      → IfSome bytes (λ all. ChecksHead all (Ok web)) → MeetsAsked asked old new met → Serves desk_key bytes old new before before (Err e)
+  pub unanswered : (web : WebRequest) (asked : Asked) (met : Option Answer) → asked ≡ asked_of clerks web
+      → IfSome bytes (λ all. ChecksHead all (Ok web)) → MeetsAsked asked old new met → Serves clerks bytes old new before before (Err e)
   unanswered web asked met is read meets = record {
     on = meets.on;
     closing = meets.closing;
-    once = asked-once desk_key bytes old new web asked is read meets.once;
+    once = asked-once clerks bytes old new web asked is read meets.once;
     told = tt;
     broken = inl (still before);
   }
 
-module _ {E : Type 0} (desk_key : List ℕ) (bytes : Option (List ℕ)) (old new : Working) (before after : Option (List ℕ))
+module _ {E : Type 0} (clerks : List Clerk) (bytes : Option (List ℕ)) (old new : Working) (before after : Option (List ℕ))
     (r : Result (Unit {0}) E) (answer : Answer) (sends : Writes (answer_bytes answer) before after r) where
-  served : GoesOn new.seen old.seen → StartsWith new.closing old.closing → Once desk_key bytes old new
-      → Answers desk_key bytes old new answer → Serves desk_key bytes old new before after r
+  served : GoesOn new.seen old.seen → StartsWith new.closing old.closing → Once clerks bytes old new
+      → Answers clerks bytes old new answer → Serves clerks bytes old new before after r
   served on closing once answers = record { on = on; closing = closing; once = once; told = whole r sends.all; broken = cut r sends.front }
     where
       whole : (q : Result (Unit {0}) E) → OnOk q (Appends before after (answer_bytes answer))
-          → OnOk q ((a : Answer) × Answers desk_key bytes old new a × Appends before after (answer_bytes a))
+          → OnOk q ((a : Answer) × Answers clerks bytes old new a × Appends before after (answer_bytes a))
       whole (Ok x) out = (answer, answers, out)
       whole (Err e) out = tt
 
       cut : (q : Result (Unit {0}) E) → OnErr q (AppendsFront before after (answer_bytes answer))
-          → OnErr q (Keeps before after ⊎ ((a : Answer) × Answers desk_key bytes old new a × AppendsFront before after (answer_bytes a)))
+          → OnErr q (Keeps before after ⊎ ((a : Answer) × Answers clerks bytes old new a × AppendsFront before after (answer_bytes a)))
       cut (Ok x) front = tt
       cut (Err e) front = inr (answer, answers, front)
 
   -- nothing was asked of the hall
-  untouched : new ≡ old → TellsStatus bytes answer ⊎ (answer ≡ Faulted (Met Memory)) → Serves desk_key bytes old new before after r
+  untouched : new ≡ old → TellsStatus bytes answer ⊎ (answer ≡ Faulted (Met Memory)) → Serves clerks bytes old new before after r
   untouched same tells =
       let posts : new.post ≡ old.post = ap (λ (w : Working). w.post) same in
       served (subst (λ (w : Working). GoesOn w.seen old.seen) (sym same) (goes_self old.seen))
       (subst (λ (w : Working). StartsWith w.closing old.closing) (sym same) (starts_self old.closing)) (inl posts) (inl (posts, tells))
 
   pub status-served : (status : WebStatus) → new ≡ old → answer ≡ Failed status → IfSome bytes (λ all. ChecksHead all (Err (Status status)))
-      → Serves desk_key bytes old new before after r
+      → Serves clerks bytes old new before after r
   status-served status same is read = untouched same (inl (record { status = status; read = read; answer_is = is }))
 
-  pub want-served : new ≡ old → answer ≡ Faulted (Met Memory) → Serves desk_key bytes old new before after r
+  pub want-served : new ≡ old → answer ≡ Faulted (Met Memory) → Serves clerks bytes old new before after r
   want-served same is = untouched same (inr is)
 
-  pub request-served : (web : WebRequest) (asked : Asked) (met : Option Answer) → asked ≡ asked_of desk_key web
+  pub request-served : (web : WebRequest) (asked : Asked) (met : Option Answer) → asked ≡ asked_of clerks web
       → IfSome bytes (λ all. ChecksHead all (Ok web)) → met ≡ Some answer → MeetsAsked asked old new met
-      → Serves desk_key bytes old new before after r
+      → Serves clerks bytes old new before after r
   request-served web asked met is read some meets =
-      served meets.on meets.closing (asked-once desk_key bytes old new web asked is read meets.once) (inr (record {
+      served meets.on meets.closing (asked-once clerks bytes old new web asked is read meets.once) (inr (record {
         request = web;
         read = read;
         tells = subst (λ (a : Asked). TellsReply a old new answer) is

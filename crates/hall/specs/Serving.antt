@@ -20,9 +20,11 @@ use Rattle.model.specs.History.{Event, History}
 use Rattle.model.specs.Requests.{IsLegal, after, reply_to}
 use Rattle.desk.specs.Answering.{IsPageFor, IsOwnPageFor}
 use Rattle.desk.specs.declared.showing.OwnPage.{OwnPage}
+use Rattle.clerks.specs.declared.clerk.Clerk.{Clerk}
 use Rattle.web.specs.Answers.{answer_bytes, answer_for}
 use Rattle.web.specs.Asked.{asked_of}
-use Rattle.web.specs.Checks.{ChecksHead}
+use Rattle.web.specs.Checks.{ChecksHead, Reading}
+use Rattle.web.specs.Taking.{TakesRequest}
 use Rattle.web.specs.declared.answer.Answer.{Answer}
 use Rattle.web.specs.declared.answer.Answer.TheVariants.{Faulted, Failed}
 use Rattle.web.specs.declared.asked.Asked.{Asked}
@@ -211,22 +213,22 @@ pub record TellsStatus (bytes : Option (List ℕ)) (answer : Answer) : Type 0 wh
   pub answer_is : answer ≡ Failed status
 
 -- A request was read: the answer says what became of what it asks for.
-pub record TellsOutcome (desk_key : List ℕ) (bytes : Option (List ℕ)) (old new : Working)
+pub record TellsOutcome (clerks : List Clerk) (bytes : Option (List ℕ)) (old new : Working)
     (answer : Answer) : Type 0 where
   pub request : WebRequest
   pub read : IfSome bytes (λ all. ChecksHead all (Ok request))
-  pub tells : TellsReply (asked_of desk_key request) old new answer
+  pub tells : TellsReply (asked_of clerks request) old new answer
 
 -- The answer to the bytes: nothing was submitted, and it is a status, or fault 90 for lack of memory to read
 -- them; or it says what became of what they ask for.
-abbrev pub Answers : List ℕ → Option (List ℕ) → Working → Working → Answer → Type 0
-Answers desk_key bytes old new answer =
+abbrev pub Answers : List Clerk → Option (List ℕ) → Working → Working → Answer → Type 0
+Answers clerks bytes old new answer =
     ((new.post ≡ old.post) × (TellsStatus bytes answer ⊎ (answer ≡ Faulted (Met Memory))))
-    ⊎ TellsOutcome desk_key bytes old new answer
+    ⊎ TellsOutcome clerks bytes old new answer
 
 -- A connection was served. `bytes` are the reader's, if known; `before` and `after` are the writer's before
 -- and after.
-pub record Serves {E : Type 0} (desk_key : List ℕ) (bytes : Option (List ℕ)) (old new : Working)
+pub record Serves {E : Type 0} (clerks : List Clerk) (bytes : Option (List ℕ)) (old new : Working)
     (before after : Option (List ℕ)) (result : Result (Unit {0}) E) : Type 0 where
   -- what the worker has seen never gets shorter, nor what it was told of the hall's closing
   pub on : GoesOn new.seen old.seen
@@ -234,15 +236,22 @@ pub record Serves {E : Type 0} (desk_key : List ℕ) (bytes : Option (List ℕ))
   -- nothing was submitted, or the one request that the bytes ask for, which isn't for a page
   pub once : (new.post ≡ old.post)
       ⊎ ((request : Requested) × (web : WebRequest) × IfSome bytes (λ all. ChecksHead all (Ok web))
-      × (asked_of desk_key web ≡ Request request) × (page_asked request ≡ None)
+      × (asked_of clerks web ≡ Request request) × (page_asked request ≡ None)
       × Submits old.post new.post request)
   -- one whole answer went out
-  pub told : OnOk result ((answer : Answer) × Answers desk_key bytes old new answer
+  pub told : OnOk result ((answer : Answer) × Answers clerks bytes old new answer
       × Appends before after (answer_bytes answer))
   -- or nothing, or a beginning of one
   pub broken : OnErr result (Keeps before after
-      ⊎ ((answer : Answer) × Answers desk_key bytes old new answer
+      ⊎ ((answer : Answer) × Answers clerks bytes old new answer
       × AppendsFront before after (answer_bytes answer)))
+
+-- A request was read, and served: no read followed the request, the end of the input, or a failed read.
+pub record ServesFrom {I E : Type 0} (reads : I → ℕ → Option (List ℕ) → I → Type 0) (remaining : I → Option (List ℕ))
+    (clerks : List Clerk) (reader rest : I) (old new : Working) (before after : Option (List ℕ))
+    (result : Result (Unit {0}) E) : Type 0 where
+  pub serves : Serves clerks (remaining reader) old new before after result
+  pub takes : (read : Reading) × TakesRequest reads remaining reader rest read
 
 -- ---- what a list of accepted requests gives
 

@@ -11,7 +11,7 @@ ghost use Rattle.hall.specs.declared.messages.Message.TheVariants.{Leave};
 ghost use Rattle.terms.specs.declared.fault.ServiceFault.TheVariants.{Closed};
 ghost use Rattle.hall.specs.Closings.{told_of};
 ghost use Rattle.hall.specs.Queue.{IsSending, sent_more, worker_view};
-ghost use Rattle.hall.specs.Serving.{Submits, SubmitsOnce, page_asked, MeetsAsked, Serves};
+ghost use Rattle.hall.specs.Serving.{Submits, SubmitsOnce, page_asked, MeetsAsked, ServesFrom};
 ghost use Rattle.hall.specs.Serving.{IsReplied, TellsSubmitted, TellsPage, shown_page};
 ghost use Rattle.hall.specs.Serving.{IfTold, IsFaultOf};
 
@@ -21,14 +21,15 @@ use crate::notices::Notices;
 use crate::opening::Opening;
 use crate::queue_ends::Post;
 use board::{Entry, LastSeen, ReadError, SharedRequest, Window, WorkerId};
+use clerks::Clerks;
 use crossbeam_utils::sync::Parker;
 use desk::OwnPage;
 use std::alloc::Global;
-use std::io::{Read, Write};
+use std::io::Write;
 use std::marker::Model;
 use std::sync::{Arc, Wait};
 use terms::{Caller, CardKey, Command, Fault, Memory, PatronId, Refusal, Request, ServiceFault};
-use web::{Answer, Asked, Routes, WebFault, read_request, write_answer};
+use web::{Answer, Asked, Routes, Source, WebFault, read_request, write_answer};
 
 /// A worker of a hall. Contracts see what it sent, what it has seen of the handled list, what it was
 /// told of the closing, and how many times it looked at the board.
@@ -409,21 +410,24 @@ impl<J: Opening> Worker<J> {
     /// show it. The connection breaks if a read or write fails, no memory is left for the answer,
     /// or the board is gone after submitting: then nothing or a prefix of the answer went out. If
     /// there is no memory to read the request, or there was none for the routes, the answer is
-    /// fault 90.
-    pub fn serve<I: Read, O: Write, R: Wait>(
+    /// fault 90. Nothing is read after the request, the end of the input or a failed read.
+    pub fn serve<I: Source, O: Write, R: Wait>(
         &mut self,
         rt: &R,
         alloc: Global,
         routes: Option<&Routes>,
-        desk_key: &CardKey,
+        clerks: &Clerks,
         reader: &mut I,
         writer: &mut O,
     ) -> Result<(), ServeFault>
-        ensures { Serves desk_key.now (I.remaining reader.old) self.old self.new
-            (O.contents writer.old) (O.contents writer.new) result }
+        ensures { ServesFrom I.reads I.Read.remaining clerks.now reader.old reader.new
+            self.old self.new (O.contents writer.old) (O.contents writer.new) result }
     {
         let answer = match read_request(alloc, routes, reader) {
-            Ok(request) => self.answer(rt, alloc, request.asked(desk_key)),
+            Ok(request) => match request.asked(alloc, clerks) {
+                Ok(asked) => self.answer(rt, alloc, asked),
+                Err(Memory) => Some(Answer::Faulted(ServiceFault::Met(Fault::Memory))),
+            },
             Err(WebFault::Status(status)) => Some(Answer::Failed(status)),
             Err(WebFault::Memory) => Some(Answer::Faulted(ServiceFault::Met(Fault::Memory))),
             Err(WebFault::Read) => None,

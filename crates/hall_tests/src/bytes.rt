@@ -1,6 +1,7 @@
 //! Requests and answers as bytes.
 
 use crate::calls::serve;
+use clerks::Clerks;
 use hall::{Opening, Worker};
 use std::alloc::Global;
 use std::io::Read;
@@ -27,9 +28,9 @@ pub fn served<J: Opening, R: Wait, I: Read + Drop>(
     mut reader: I,
     room: usize,
 ) -> Option<(Vec<u8>, bool)> {
-    let desk_key = CardKey::new(alloc, "deskkey00001").ok()??;
+    let clerks = Clerks::sole(alloc, CardKey::new(alloc, "deskkey00001").ok()??).ok()?;
     let mut writer = Narrow::new(alloc, room);
-    let is_whole = serve(rt, alloc, worker, &desk_key, &mut reader, &mut writer);
+    let is_whole = serve(rt, alloc, worker, &clerks, &mut reader, &mut writer);
     Some((writer.into_taken(), is_whole))
 }
 

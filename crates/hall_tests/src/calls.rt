@@ -5,13 +5,14 @@ ghost use Rattle.store.specs.Library.{over_memory};
 ghost use Rattle.model.specs.History.{History};
 ghost use Rattle.hall.specs.Openings.{OpensWith};
 
+use clerks::Clerks;
 use desk::Desk;
 use hall::{DeskSide, Ended, Hall, HallFault, Left, Opened, Opening, Routes, Watch, Worker};
 use sqlite::{Alter, Connection, MemStore};
 use std::alloc::Global;
 use std::io::{Read, Write};
 use std::sync::Wait;
-use terms::{CardKey, Fault, Memory, PatronId, Request, ServiceFault};
+use terms::{Fault, Memory, PatronId, Request, ServiceFault};
 
 /// What a hall is opened or given back as.
 pub type Side<J, S> = (DeskSide<J, S>, Vec<Worker<J>>);
@@ -118,12 +119,12 @@ pub fn serve<J: Opening, R: Wait, I: Read, O: Write>(
     rt: &R,
     alloc: Global,
     worker: &mut Worker<J>,
-    desk_key: &CardKey,
+    clerks: &Clerks,
     reader: &mut I,
     writer: &mut O,
 ) -> bool {
     let routes = Routes::new(alloc).ok();
-    match worker.serve(rt, alloc, routes.as_ref(), desk_key, reader, writer) {
+    match worker.serve(rt, alloc, routes.as_ref(), clerks, reader, writer) {
         Ok(()) => true,
         Err(_) => false,
     }

@@ -33,7 +33,7 @@ use terms::{CardKey, Command, Key, Memory, PatronId};
 pub struct WebRequest {
     /// The route's patron; none on the desk's route.
     pub patron: Option<PatronId>,
-    /// The card key shown, or on the desk's route the desk's key; none if the field is absent or
+    /// The card key shown, or on the desk's route a clerk's key; none if the field is absent or
     /// malformed.
     pub shown: Option<CardKey>,
     /// The request key; none for a patron's page, whatever key it shows.

@@ -8,4 +8,6 @@ mod copies;
 #[cfg(test)]
 mod examples;
 #[cfg(test)]
+mod keys;
+#[cfg(test)]
 mod messages;
