@@ -11,6 +11,7 @@ use Rattle.terms.specs.declared.fault.ServiceFault.{ServiceFault}
 use Rattle.terms.specs.declared.fault.Fault.TheVariants.{Memory}
 use Rattle.terms.specs.declared.fault.ServiceFault.TheVariants.{Met}
 use Rattle.board.specs.declared.entry.Entry.{Entry}
+use Rattle.clerks.specs.declared.clerk.Clerk.{Clerk}
 use Rattle.hall.specs.Handling.{ClosedBy}
 use Rattle.hall.specs.Queue.{handled, unhandled, requests}
 use Rattle.hall.specs.declared.messages.Message.{Message}
@@ -55,14 +56,14 @@ module _ {S : Type 0} (g : Ghosts S) where
       by false e = (e, (is.refused e).1)
 
   module _ {C I O : Type 0} (comes : C → I → O → C → Type 0) (goes : C → O → Bool → C → Type 0) (misses : C → Type 0)
-      (remaining : I → Option (List ℕ)) (contents : O → Option (List ℕ)) (desk_key : List ℕ)
+      (remaining : I → Option (List ℕ)) (contents : O → Option (List ℕ)) (clerks : List Clerk)
       {E : Type 0} (lists : History → Type 0) (each port : ℕ) (olds news : List C) (old new : Held S) where
     -- the port was told, and then how it ended
     pub port-told : (a b c : Option (List ℕ)) (r : Result Exit E) (are_whole : Bool) (fault : Option ServiceFault)
-        → ServesWorkers comes goes misses remaining contents desk_key each olds news are_whole lists g old new fault
+        → ServesWorkers comes goes misses remaining contents clerks each olds news are_whole lists g old new fault
         → Appends a b (port_line port)
         → EndsWith (exit_after are_whole fault) (end_text are_whole fault) b c r
-        → ServesHall comes goes misses remaining contents desk_key each port olds news lists g old new a c r
+        → ServesHall comes goes misses remaining contents clerks each port olds news lists g old new a c r
     port-told a b c r are_whole fault serves out ends = record {
       fault = fault;
       are_whole = are_whole;
@@ -80,9 +81,9 @@ module _ {S : Type 0} (g : Ghosts S) where
 
     -- the port could not be told
     pub port-untold : (a b : Option (List ℕ)) (error : E) (are_whole : Bool) (fault : Option ServiceFault)
-        → ServesWorkers comes goes misses remaining contents desk_key 0 olds news are_whole lists g old new fault
+        → ServesWorkers comes goes misses remaining contents clerks 0 olds news are_whole lists g old new fault
         → AppendsFront a b (port_line port)
-        → ServesHall comes goes misses remaining contents desk_key each port olds news lists g old new a b (Err error)
+        → ServesHall comes goes misses remaining contents clerks each port olds news lists g old new a b (Err error)
     port-untold a b error are_whole fault serves front = record {
       fault = fault;
       are_whole = are_whole;
@@ -130,13 +131,13 @@ module _ {S : Type 0} (g : Ghosts S) where
   }))
 
   module _ {C I O : Type 0} (comes : C → I → O → C → Type 0) (goes : C → O → Bool → C → Type 0) (misses : C → Type 0)
-      (remaining : I → Option (List ℕ)) (contents : O → Option (List ℕ)) (desk_key : List ℕ) where
+      (remaining : I → Option (List ℕ)) (contents : O → Option (List ℕ)) (clerks : List Clerk) where
     -- the hall was opened, which only looks at the tables, and for each list that they show
     pub opened-served : {E : Type 0} (lists : History → Type 0) (each port : ℕ) (olds news : List C) (old side new : Held S)
         (a b : Option (List ℕ)) (r : Result Exit E) → ((H : History) → Shows (state g old) H → lists H)
         → can_be_workers (length olds) ≡ true → LooksOnly g old side (Ok tt)
-        → ServesHall comes goes misses remaining contents desk_key each port olds news lists g side new a b r
-        → ServesPort comes goes misses remaining contents desk_key each port olds news g old new a b r
+        → ServesHall comes goes misses remaining contents clerks each port olds news lists g side new a b r
+        → ServesPort comes goes misses remaining contents clerks each port olds news g old new a b r
     opened-served lists each port olds news old side new a b r every can look served =
         let s = served.serves in
         inl (
@@ -174,18 +175,18 @@ module _ {S : Type 0} (g : Ghosts S) where
       record { fault = fault; asked = asked; cause = cause; desk = unopened g old new fault cause; same = refl; told = ends }
 
   module _ {C I O : Type 0} (comes : C → I → O → C → Type 0) (goes : C → O → Bool → C → Type 0) (misses : C → Type 0)
-      (remaining : I → Option (List ℕ)) (contents : O → Option (List ℕ)) (desk_key : List ℕ) where
+      (remaining : I → Option (List ℕ)) (contents : O → Option (List ℕ)) (clerks : List Clerk) where
     -- the fault of a hall that isn't opened was told
     pub fault-told : {E : Type 0} (each port : ℕ) (all : List C) (old new : Held S) (a b : Option (List ℕ)) (r : Result Exit E)
         (fault : ServiceFault) → (can_be_workers (length all) ≡ true) ⊎ (fault ≡ Met Memory) → KeepsClosed g old new fault
         → EndsWith Faulted (fault_line (service_fault_number fault)) a b r
-        → ServesPort comes goes misses remaining contents desk_key each port all all g old new a b r
+        → ServesPort comes goes misses remaining contents clerks each port all all g old new a b r
     fault-told each port all old new a b r fault asked cause ends = inr (inl (nobody-served all old new a b r fault asked cause ends))
 
     -- why the hall isn't opened was told
     pub why-told : {E : Type 0} (each port : ℕ) (all : List C) (old new : Held S) (w : Why) (a b : Option (List ℕ)) (r : Result Exit E)
         → IsUnopened (length all) g old new w → EndsWith (exit_of_why w) (why_line w) a b r
-        → ServesPort comes goes misses remaining contents desk_key each port all all g old new a b r
+        → ServesPort comes goes misses remaining contents clerks each port all all g old new a b r
     why-told each port all old new (why.Faulted fault) a b r is ends =
         fault-told each port all old new a b r fault (inl (can-be (length all) old new fault is))
         (not-opened (length all) old new fault is) ends

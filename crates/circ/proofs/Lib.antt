@@ -12,3 +12,4 @@ mod SoundBalances
 mod WholeTables
 mod Audits
 mod Migrations
+pub mod Keys

@@ -2,6 +2,7 @@
 use Rattle.std.proofs.Common.{◌≡◌, inl, inr, ℕ, zero, suc, ◌+◌, Bool, true, false, true≢false, List, [], ◌∷◌, ◌++◌, length, map, refl, sym, ap, ◌∙◌, subst, arith}
 use Rattle.std.specs.Prelude.{Option, Result, Ok, Err, MatchResult, IsOk, is_ok, if◌then◌else◌}
 use Rattle.std.proofs.lemmas.List.{map-append, length-append}
+use Rattle.clerks.specs.declared.clerk.Clerk.{Clerk}
 use Rattle.board.specs.declared.entry.Seen.{Seen}
 use Rattle.hall.specs.declared.messages.Message.{Message}
 use Rattle.hall.specs.declared.messages.View.{View}
@@ -86,8 +87,8 @@ at-these F k k' n n' c c' w w' ek en ec ew f =
 -- ---- a worker's part
 
 module _ {C I O : Type 0} (comes : C → I → O → C → Type 0) (goes : C → O → Bool → C → Type 0) (misses : C → Type 0)
-    (remaining : I → Option (List ℕ)) (contents : O → Option (List ℕ)) (desk_key : List ℕ) where
-  next-worker : (old new : C) (before after : Working) → ServesNext comes goes misses remaining contents desk_key old new before after
+    (remaining : I → Option (List ℕ)) (contents : O → Option (List ℕ)) (clerks : List Clerk) where
+  next-worker : (old new : C) (before after : Working) → ServesNext comes goes misses remaining contents clerks old new before after
       → after.post.worker ≡ before.post.worker
   next-worker old new before after (inl one) = elim one.served.once [
     | inl same ↦ ap (λ (v : View). v.worker) same
@@ -95,14 +96,14 @@ module _ {C I O : Type 0} (comes : C → I → O → C → Type 0) (goes : C →
   ]
   next-worker old new before after (inr none) = ap (λ (w : Working). w.post.worker) none.2
 
-  many-worker : (n : ℕ) (old new : C) (before after : Working) → ServesMany comes goes misses remaining contents desk_key n old new before after
+  many-worker : (n : ℕ) (old new : C) (before after : Working) → ServesMany comes goes misses remaining contents clerks n old new before after
       → after.post.worker ≡ before.post.worker
   many-worker zero old new before after h = ap (λ (w : Working). w.post.worker) h.1
   many-worker (suc n) old new before after h =
       next-worker h.0 new h.1 after h.3 ∙ many-worker n old h.0 before h.1 h.2
 
   -- the number of a worker that has left
-  left-worker : (n : ℕ) (old new : C) (hired left : Working) → Works comes goes misses remaining contents desk_key n old new hired left
+  left-worker : (n : ℕ) (old new : C) (hired left : Working) → Works comes goes misses remaining contents clerks n old new hired left
       → left.post.worker ≡ hired.post.worker
   left-worker n old new hired left works =
       let kept = many-worker n old new hired works.last works.all in
@@ -114,11 +115,11 @@ module _ {C I O : Type 0} (comes : C → I → O → C → Type 0) (goes : C →
   module _ (each n : ℕ) (got : List Message) (shown : Seen) where
     -- the worker's end was taken in
     pub takes-part : (are_whole took_part : Bool) (served k : ℕ) (old new : C) (hired left : Working) → hired.post ≡ worker_view k
-        → WorksOrLeaves comes goes misses remaining contents desk_key each served old new hired left
+        → WorksOrLeaves comes goes misses remaining contents clerks each served old new hired left
         → (is_open (of left.post.worker got) ≡ false → AreFirst left.post.worker n got left.post.sent)
         → is_open (of k got) ≡ false
         → (took_part ≡ true → TookPart n got shown left) → (are_whole ≡ true → (took_part ≡ true) × (served ≡ each))
-        → TakesPart comes goes misses remaining contents desk_key each n got shown are_whole k old new
+        → TakesPart comes goes misses remaining contents clerks each n got shown are_whole k old new
     takes-part are_whole took_part served k old new hired left fresh works first gone part whole =
         let number : left.post.worker ≡ k =
         left-worker served old new hired left works.works ∙ ap (λ (v : View). v.worker) fresh in
@@ -136,10 +137,10 @@ module _ {C I O : Type 0} (comes : C → I → O → C → Type 0) (goes : C →
     -- the other workers' parts, when one more end was taken in
     pub others : (n' : ℕ) (got' : List Message) (shown' : Seen) (inner outer : Bool) → n' ≡ n → got' ≡ got → shown' ≡ shown
         → (outer ≡ true → inner ≡ true) → (k : ℕ) (old new : C)
-        → TakesPart comes goes misses remaining contents desk_key each n got shown inner k old new
-        → TakesPart comes goes misses remaining contents desk_key each n' got' shown' outer k old new
+        → TakesPart comes goes misses remaining contents clerks each n got shown inner k old new
+        → TakesPart comes goes misses remaining contents clerks each n' got' shown' outer k old new
     others n' got' shown' inner outer en eg es less k old new part =
-        let now : TakesPart comes goes misses remaining contents desk_key each n got shown outer k old new = record {
+        let now : TakesPart comes goes misses remaining contents clerks each n got shown outer k old new = record {
           served = part.served;
           hired = part.hired;
           left = part.left;
@@ -148,6 +149,6 @@ module _ {C I O : Type 0} (comes : C → I → O → C → Type 0) (goes : C →
           first = part.first;
           whole = λ is. part.whole (less is);
         } in
-        subst (λ (m : ℕ). TakesPart comes goes misses remaining contents desk_key each m got' shown' outer k old new) (sym en)
-        (subst (λ (l : List Message). TakesPart comes goes misses remaining contents desk_key each n l shown' outer k old new) (sym eg)
-        (subst (λ (v : Seen). TakesPart comes goes misses remaining contents desk_key each n got v outer k old new) (sym es) now))
+        subst (λ (m : ℕ). TakesPart comes goes misses remaining contents clerks each m got' shown' outer k old new) (sym en)
+        (subst (λ (l : List Message). TakesPart comes goes misses remaining contents clerks each n l shown' outer k old new) (sym eg)
+        (subst (λ (v : Seen). TakesPart comes goes misses remaining contents clerks each n got v outer k old new) (sym es) now))

@@ -1,5 +1,6 @@
 -- What a worker does with its connections.
 use Rattle.std.specs.Prelude.{◌≡◌, ◌⊎◌, ℕ, zero, suc, Bool, List, Option, Result, is_ok}
+use Rattle.clerks.specs.declared.clerk.Clerk.{Clerk}
 use Rattle.hall.specs.declared.messages.Message.TheVariants.{Leave}
 use Rattle.hall.specs.declared.worker.ServeFault.{ServeFault}
 use Rattle.hall.specs.Queue.{sent_more}
@@ -9,7 +10,7 @@ use Rattle.hall.specs.Serving.{Working, Serves}
 -- not: each relates the connections before and after. `misses` says that none could be had. `remaining` are a reader's bytes and
 -- `contents` a writer's, if known.
 module _ {C I O : Type 0} (comes : C → I → O → C → Type 0) (goes : C → O → Bool → C → Type 0) (misses : C → Type 0)
-    (remaining : I → Option (List ℕ)) (contents : O → Option (List ℕ)) (desk_key : List ℕ) where
+    (remaining : I → Option (List ℕ)) (contents : O → Option (List ℕ)) (clerks : List Clerk) where
   -- A connection came, the worker served it, and it was ended, as answered exactly if one whole answer went
   -- out: nothing else went out to it.
   pub record ServesOne (old new : C) (before after : Working) : Type 0 where
@@ -20,7 +21,7 @@ module _ {C I O : Type 0} (comes : C → I → O → C → Type 0) (goes : C →
     -- the writer after serving
     pub told : O
     pub result : Result (Unit {0}) ServeFault
-    pub served : Serves desk_key (remaining reader) before after (contents writer) (contents told) result
+    pub served : Serves clerks (remaining reader) before after (contents writer) (contents told) result
     pub ended : goes at told (is_ok result) new
 
   -- It was served, or none could be accepted.

@@ -27,6 +27,10 @@ not_understood_line = codes "words not understood" ++ 10 ∷ []
 abbrev pub no_network_line : List ℕ
 no_network_line = codes "fault network" ++ 10 ∷ []
 
+-- A file of keys can't be read, or is none.
+abbrev pub no_keys_line : List ℕ
+no_keys_line = codes "fault keys" ++ 10 ∷ []
+
 -- The port of the web service.
 abbrev pub port_line : ℕ → List ℕ
 port_line port = codes "listening on " ++ decimal port ++ 10 ∷ []

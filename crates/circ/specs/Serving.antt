@@ -5,6 +5,7 @@ use Rattle.store.specs.Library.{Ghosts, Held, state}
 use Rattle.model.specs.History.{History}
 use Rattle.desk.specs.Answering.{Shows}
 use Rattle.board.specs.declared.entry.Seen.{Seen}
+use Rattle.clerks.specs.declared.clerk.Clerk.{Clerk}
 use Rattle.terms.specs.Texts.{service_fault_number}
 use Rattle.terms.specs.declared.fault.Fault.TheVariants.{Memory}
 use Rattle.terms.specs.declared.fault.ServiceFault.{ServiceFault}
@@ -75,7 +76,7 @@ pub record IsNotServed {C S E : Type 0} (olds news : List C) (g : Ghosts S) (old
 -- `comes`, `goes` and `misses` are said of a worker's connections, `remaining` of a reader's bytes and
 -- `contents` of a writer's, as for the loop of a worker (`Connections`).
 module _ {C I O : Type 0} (comes : C → I → O → C → Type 0) (goes : C → O → Bool → C → Type 0) (misses : C → Type 0)
-    (remaining : I → Option (List ℕ)) (contents : O → Option (List ℕ)) (desk_key : List ℕ) where
+    (remaining : I → Option (List ℕ)) (contents : O → Option (List ℕ)) (clerks : List Clerk) where
   -- Worker k's part in a hall that received `got` and handled its first n submissions: `old` and `new` are its
   -- connections before and after.
   pub record TakesPart (each n : ℕ) (got : List Message) (shown : Seen) (are_whole : Bool) (k : ℕ) (old new : C) : Type 0 where
@@ -85,7 +86,7 @@ module _ {C I O : Type 0} (comes : C → I → O → C → Type 0) (goes : C →
     -- it had submitted nothing before its first connection
     pub fresh : hired.post ≡ worker_view k
     -- it served these one after another and left: it submitted what they ask for, and wrote what `Serves` says
-    pub works : WorksOrLeaves comes goes misses remaining contents desk_key each served old new hired left
+    pub works : WorksOrLeaves comes goes misses remaining contents clerks each served old new hired left
     -- of what it submitted a beginning was handled, in that order
     pub first : AreFirst k n got left.post.sent
     -- where nothing is missing it served all, and what it saw is a beginning of what was shown

@@ -5,14 +5,22 @@ ghost use Rattle.std.specs.Prelude.{MatchOption};
 ghost use Rattle.std.specs.Fmt.{decimal};
 ghost use Rattle.front.specs.Understood.{texts_of};
 ghost use Rattle.circ.specs.Arguments.{HasArgument, report_words, IsPort, IsRun, IsNoRun};
-ghost use Rattle.circ.specs.Arguments.{IsWorkers, IsEach};
+ghost use Rattle.circ.specs.Arguments.{IsWorkers, IsEach, AreKeys, AreNoKeys};
 ghost use Rattle.desk.specs.declared.reports.Report.{Report as Asked};
 
-use crate::serving::Web;
 use desk::Report;
 use hall_schedule::WORKERS;
 use std::alloc::Global;
 use terms::{BranchId, CardKey, Day, Key, Memory, PartKind, read_number};
+
+/// What opens the desk.
+#[derive(Drop)]
+pub enum DeskKeys<'a> {
+    /// One key for everybody.
+    One(CardKey),
+    /// `@FILE`: the clerks' keys, in a file.
+    File(&'a str),
+}
 
 /// What the program is asked to do.
 #[derive(Drop)]
@@ -46,13 +54,15 @@ pub enum Run<'a> {
     /// each serving this many connections.
     Serve {
         path: &'a str,
+        port: u16,
         workers: usize,
-        web: Web,
+        each: u32,
+        keys: DeskKeys<'a>,
     },
     /// `send PORT DESKKEY KEY WORDS..`: send one request of the desk to a serving program.
     Send {
         port: u16,
-        desk_key: CardKey,
+        keys: DeskKeys<'a>,
         key: Key,
         words: &'a [String],
     },
@@ -254,6 +264,20 @@ fn read_each(text: &str) -> Option<u32>
     Some(each)
 }
 
+/// Reads what opens the desk: a key, or a file's path behind `@`.
+fn read_keys<'a>(alloc: Global, word: &'a str) -> Result<Option<DeskKeys<'a>>, Memory>
+    ensures { IfOk result (λ o. MatchOption o (AreNoKeys word.now) (AreKeys word.now)) }
+{
+    match word.strip_prefix('@') {
+        Some(path) if path.is_empty() => Ok(None),
+        Some(path) => Ok(Some(DeskKeys::File(path))),
+        None => match CardKey::new(alloc, word)? {
+            Some(key) => Ok(Some(DeskKeys::One(key))),
+            None => Ok(None),
+        },
+    }
+}
+
 /// Reads a serve run from its five words.
 fn read_settings<'a>(
     alloc: Global,
@@ -261,10 +285,10 @@ fn read_settings<'a>(
     port: &str,
     workers: &str,
     each: &str,
-    desk_key: &str,
+    keys: &'a str,
 ) -> Result<Option<Run<'a>>, Memory>
     ensures { let asked = codes "serve" ∷ path.now ∷ port.now ∷ workers.now ∷ each.now
-        ∷ desk_key.now ∷ [] in
+        ∷ keys.now ∷ [] in
         IfOk result (λ o. MatchOption o (IsNoRun asked) (IsRun asked)) }
 {
     let Some(port) = read_port(port) else {
@@ -276,15 +300,13 @@ fn read_settings<'a>(
     let Some(each) = read_each(each) else {
         return Ok(None);
     };
-    match CardKey::new(alloc, desk_key)? {
-        Some(desk_key) => Ok(Some(Run::Serve {
+    match read_keys(alloc, keys)? {
+        Some(keys) => Ok(Some(Run::Serve {
             path,
+            port,
             workers,
-            web: Web {
-                port,
-                each,
-                desk_key,
-            },
+            each,
+            keys,
         })),
         None => Ok(None),
     }
@@ -295,7 +317,7 @@ fn read_serve<'a>(alloc: Global, words: &'a [String]) -> Result<Option<Run<'a>>,
     ensures { let asked = codes "serve" ∷ texts_of words.now in
         IfOk result (λ o. MatchOption o (IsNoRun asked) (IsRun asked)) }
 {
-    let [path, port, workers, each, desk_key] = words else {
+    let [path, port, workers, each, keys] = words else {
         return Ok(None);
     };
     read_settings(
@@ -304,7 +326,7 @@ fn read_serve<'a>(alloc: Global, words: &'a [String]) -> Result<Option<Run<'a>>,
         port.as_str(),
         workers.as_str(),
         each.as_str(),
-        desk_key.as_str(),
+        keys.as_str(),
     )
 }
 
@@ -313,7 +335,7 @@ fn read_send<'a>(alloc: Global, words: &'a [String]) -> Result<Option<Run<'a>>, 
     ensures { let asked = codes "send" ∷ texts_of words.now in
         IfOk result (λ o. MatchOption o (IsNoRun asked) (IsRun asked)) }
 {
-    let [port, desk_key, key, words @ ..] = words else {
+    let [port, keys, key, words @ ..] = words else {
         return Ok(None);
     };
     if words.is_empty() {
@@ -322,13 +344,13 @@ fn read_send<'a>(alloc: Global, words: &'a [String]) -> Result<Option<Run<'a>>, 
     let Some(port) = read_port(port.as_str()) else {
         return Ok(None);
     };
-    let Some(desk_key) = CardKey::new(alloc, desk_key.as_str())? else {
+    let Some(keys) = read_keys(alloc, keys.as_str())? else {
         return Ok(None);
     };
     match Key::new(alloc, key.as_str())? {
         Some(key) => Ok(Some(Run::Send {
             port,
-            desk_key,
+            keys,
             key,
             words,
         })),
@@ -344,11 +366,14 @@ fn wrong_key(alloc: Global, key: &str) -> Result<Option<WrongArgument>, Memory> 
     }
 }
 
-/// Returns the error if the desk key is malformed.
-fn wrong_desk_key(alloc: Global, desk_key: &str) -> Result<Option<WrongArgument>, Memory> {
-    match CardKey::new(alloc, desk_key)? {
+/// Returns the error if it is neither a desk key nor `@` and a path.
+fn wrong_keys(alloc: Global, word: &str) -> Result<Option<WrongArgument>, Memory> {
+    match read_keys(alloc, word)? {
         Some(_) => Ok(None),
-        None => Ok(Some(part("DESKKEY", PartKind::CardKey))),
+        None => Ok(Some(other(
+            "DESKKEY",
+            "8 to 32 ASCII letters and digits, or @ and the path of a file of keys",
+        ))),
     }
 }
 
@@ -370,7 +395,7 @@ fn wrong_serve(
     port: &str,
     workers: &str,
     each: &str,
-    desk_key: &str,
+    keys: &str,
 ) -> Result<Option<WrongArgument>, Memory> {
     if read_port(port).is_none() {
         return Ok(Some(wrong_port()));
@@ -381,7 +406,7 @@ fn wrong_serve(
     if read_each(each).is_none() {
         return Ok(Some(other("EACH", "a number from 1 to 1000000, without a leading zero")));
     }
-    wrong_desk_key(alloc, desk_key)
+    wrong_keys(alloc, keys)
 }
 
 /// Finds the first wrong argument when `read_run` doesn't understand the words. None if their
@@ -393,18 +418,18 @@ pub fn wrong_argument(alloc: Global, words: &[String]) -> Result<Option<WrongArg
     match (run.as_str(), words) {
         ("file", [_, key, _, ..]) => wrong_key(alloc, key.as_str()),
         ("report", [_, name, argument]) => Ok(wrong_report(name.as_str(), argument.as_str())),
-        ("serve", [_, port, workers, each, desk_key]) => wrong_serve(
+        ("serve", [_, port, workers, each, keys]) => wrong_serve(
             alloc,
             port.as_str(),
             workers.as_str(),
             each.as_str(),
-            desk_key.as_str(),
+            keys.as_str(),
         ),
         ("send", [port, _, _, _, ..]) if read_port(port.as_str()).is_none() => Ok(Some(
             wrong_port(),
         )),
-        ("send", [_, desk_key, key, _, ..]) => {
-            match wrong_desk_key(alloc, desk_key.as_str())? {
+        ("send", [_, keys, key, _, ..]) => {
+            match wrong_keys(alloc, keys.as_str())? {
                 Some(wrong) => Ok(Some(wrong)),
                 None => wrong_key(alloc, key.as_str()),
             }

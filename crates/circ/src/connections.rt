@@ -3,11 +3,11 @@
 ghost use Rattle.std.specs.Prelude.{◌≡◌, None, IfSome};
 ghost use Rattle.circ.specs.Connections.{ServesNext, Works};
 
+use clerks::Clerks;
 use hall::{Left, Opening, Routes, Worker};
 use std::alloc::Global;
 use std::io::{Read, Write};
 use std::sync::Wait;
-use terms::CardKey;
 
 /// A sequence of connections, from a listener or a list.
 pub trait Connections {
@@ -46,11 +46,11 @@ fn serve_next<J: Opening, C: Connections, R: Wait>(
     alloc: Global,
     connections: &mut C,
     routes: &mut Option<Routes>,
-    desk_key: &CardKey,
+    clerks: &Clerks,
     worker: &mut Worker<J>,
 )
     ensures { ServesNext C.comes C.goes C.misses C.Reader.Read.remaining
-        C.Writer.Write.contents desk_key.now connections.old connections.new worker.old worker.new }
+        C.Writer.Write.contents clerks.now connections.old connections.new worker.old worker.new }
 {
     let Some((mut reader, mut writer)) = connections.accept(alloc) else {
         return;
@@ -58,14 +58,7 @@ fn serve_next<J: Opening, C: Connections, R: Wait>(
     if routes.is_none() {
         *routes = Routes::new(alloc).ok();
     }
-    let told = worker.serve(
-        rt,
-        alloc,
-        routes.as_ref(),
-        desk_key,
-        &mut reader,
-        &mut writer,
-    );
+    let told = worker.serve(rt, alloc, routes.as_ref(), clerks, &mut reader, &mut writer);
     connections.end(reader, writer, told.is_ok());
 }
 
@@ -78,12 +71,12 @@ pub fn work<J: Opening, C: Connections, R: Wait>(
     rt: &R,
     alloc: Global,
     connections: &mut C,
-    desk_key: &CardKey,
+    clerks: &Clerks,
     worker: Worker<J>,
     each: u32,
 ) -> Left<J>
     ensures { Works C.comes C.goes C.misses C.Reader.Read.remaining C.Writer.Write.contents
-        desk_key.now each connections.old connections.new worker
+        clerks.now each connections.old connections.new worker
         (record {
           post = result.post;
           seen = result.sight;
@@ -94,7 +87,7 @@ pub fn work<J: Opening, C: Connections, R: Wait>(
     let mut worker = worker;
     let mut routes = None;
     'connections: for _served in 0..each {
-        serve_next(rt, alloc, connections, &mut routes, desk_key, &mut worker);
+        serve_next(rt, alloc, connections, &mut routes, clerks, &mut worker);
     }
     worker.leave(rt)
 }

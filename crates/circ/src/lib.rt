@@ -14,7 +14,7 @@ mod sending;
 mod serving;
 mod writing;
 
-pub use arguments::{ArgumentForm, Run, WrongArgument, read_run, wrong_argument};
+pub use arguments::{ArgumentForm, DeskKeys, Run, WrongArgument, read_run, wrong_argument};
 pub use auditing::audit;
 pub use connections::{Connections, work};
 pub use desk::Report;

@@ -102,6 +102,15 @@ pub fn no_network<W: Write>(writer: &mut W) -> Result<Exit, WriteFault>
     Ok(Exit::Faulted)
 }
 
+/// Writes that a file of keys can't be read, or is none. Takes no memory.
+pub fn no_keys<W: Write>(writer: &mut W) -> Result<Exit, WriteFault>
+    ensures { EndsWith Exit.Faulted no_keys_line
+        (W.contents writer.old) (W.contents writer.new) result }
+{
+    write_bytes(writer, b"fault keys\n")?;
+    Ok(Exit::Faulted)
+}
+
 /// Writes that a thread could not be made. Takes no memory.
 pub(crate) fn tell_threads<W: Write>(writer: &mut W) -> Result<Exit, WriteFault>
     ensures { EndsWith Exit.Faulted threads_line
@@ -187,6 +196,7 @@ pub(crate) fn tell_finding<W: Write>(writer: &mut W, finding: Finding) -> Result
         Finding::Balance(patron) => tell_unsound(writer, b"balance ", patron.number()),
     }
 }
+
 /// Writes that a row stands in a table of older schemas. Takes no memory.
 pub(crate) fn tell_old_row<W: Write>(writer: &mut W, row: OldRow) -> Result<Exit, WriteFault>
     ensures { EndsWith Exit.Refused (old_row_line row)

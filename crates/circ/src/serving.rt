@@ -19,6 +19,7 @@ use crate::lines::{
     Exit, WriteFault, not_understood, out_of_memory, tell_port, tell_service_fault, tell_threads,
 };
 use crate::listening::{Outgoing, Port, ports};
+use clerks::Clerks;
 use desk::Desk;
 use hall::{DeskSide, Ended, Hall, HallFault, Left, Opened, Opening, Watch, Why, Worker};
 use sqlite::Alter;
@@ -31,7 +32,7 @@ use std::sync::atomic::{AtomicBool, Ordering};
 use std::sync::{Arc, Wait};
 use std::thread;
 use std::thread::{Promise, PromisedHandle, Threads};
-use terms::{CardKey, ServiceFault};
+use terms::ServiceFault;
 
 /// The settings for serving.
 #[derive(Drop)]
@@ -40,8 +41,8 @@ pub struct Web {
     pub port: u16,
     /// The number of connections each worker serves.
     pub each: u32,
-    /// The key that marks a request as the desk's.
-    pub desk_key: CardKey,
+    /// The clerks whose keys mark a request as the desk's.
+    pub clerks: Clerks,
 }
 
 /// What a worker's thread gives back.
@@ -59,7 +60,7 @@ struct Served<J: Opening, C> {
 struct Task<J: Opening, C: Connections> {
     worker: Snapshot<Worker<J>>,
     connections: Snapshot<C>,
-    desk_key: Snapshot<CardKey>,
+    clerks: Snapshot<Clerks>,
     each: u32,
 }
 
@@ -67,7 +68,7 @@ impl<J: Opening, C: Connections> Promise<Served<J, C>> for Task<J, C> {
     ghost use Rattle.circ.specs.Connections.{WorksOrLeaves};
 
     ghost kept_by = { λ t r. WorksOrLeaves C.comes C.goes C.misses C.Reader.Read.remaining
-        C.Writer.Write.contents t.desk_key.value t.each r.count t.connections.value r.connections
+        C.Writer.Write.contents t.clerks.value t.each r.count t.connections.value r.connections
         t.worker.value (record {
           post = r.left.post;
           seen = r.left.sight;
@@ -84,13 +85,13 @@ fn serve_own<J: Opening, C: Connections, R: Wait>(
     rt: &R,
     alloc: Global,
     connections: C,
-    desk_key: &CardKey,
+    clerks: &Clerks,
     worker: Worker<J>,
     count: u32,
 ) -> Served<J, C>
     ensures count { result.count ≡ count }
     ensures works { Works C.comes C.goes C.misses C.Reader.Read.remaining
-        C.Writer.Write.contents desk_key.now count connections result.connections worker (record {
+        C.Writer.Write.contents clerks.now count connections result.connections worker (record {
           post = result.left.post;
           seen = result.left.sight;
           closing = result.left.closing;
@@ -98,7 +99,7 @@ fn serve_own<J: Opening, C: Connections, R: Wait>(
         }) }
 {
     let mut connections = connections;
-    let left = work(rt, alloc, &mut connections, desk_key, worker, count);
+    let left = work(rt, alloc, &mut connections, clerks, worker, count);
     Served {
         left,
         connections,
@@ -111,13 +112,13 @@ fn serve_or_leave<J: Opening, C: Connections, R: Wait>(
     rt: &R,
     alloc: Global,
     connections: C,
-    desk_key: &CardKey,
+    clerks: &Clerks,
     worker: Worker<J>,
     each: u32,
     has_thread: &AtomicBool,
 ) -> Served<J, C>
     ensures { WorksOrLeaves C.comes C.goes C.misses C.Reader.Read.remaining
-        C.Writer.Write.contents desk_key.now each result.count connections result.connections
+        C.Writer.Write.contents clerks.now each result.count connections result.connections
         worker (record {
           post = result.left.post;
           seen = result.left.sight;
@@ -130,25 +131,25 @@ fn serve_or_leave<J: Opening, C: Connections, R: Wait>(
     } else {
         0
     };
-    serve_own(rt, alloc, connections, desk_key, worker, count)
+    serve_own(rt, alloc, connections, clerks, worker, count)
 }
 
-/// What a worker's thread shares with this one: the desk's key, and whether the worker has a thread.
+/// What a worker's thread shares with this one: the clerks, and whether the worker has a thread.
 struct Shared {
-    desk_key: Arc<CardKey, Global>,
+    clerks: Arc<Clerks, Global>,
     has_thread: Arc<AtomicBool, Global>,
     theirs: Arc<AtomicBool, Global>,
 }
 
 /// Makes what a worker's thread shares with this one. None if there is no memory.
-fn share(alloc: Global, desk_key: &Arc<CardKey, Global>) -> Option<Shared>
-    ensures { IfSome result (λ s. arc_value s.desk_key ≡ arc_value desk_key.now) }
+fn share(alloc: Global, clerks: &Arc<Clerks, Global>) -> Option<Shared>
+    ensures { IfSome result (λ s. arc_value s.clerks ≡ arc_value clerks.now) }
 {
-    let desk_key = Arc::try_clone(desk_key).ok()?;
+    let clerks = Arc::try_clone(clerks).ok()?;
     let has_thread = Arc::new(alloc, AtomicBool::new(true)).ok()?;
     let theirs = Arc::try_clone(&has_thread).ok()?;
     Some(Shared {
-        desk_key,
+        clerks,
         has_thread,
         theirs,
     })
@@ -169,9 +170,9 @@ fn spawn<
 ) -> Started<J, C>
     ensures { MatchResult result
         (λ h. (h.promise.worker.value ≡ worker) × (h.promise.connections.value ≡ connections)
-        × (h.promise.desk_key.value ≡ arc_value shared.desk_key) × (h.promise.each ≡ each))
+        × (h.promise.clerks.value ≡ arc_value shared.clerks) × (h.promise.each ≡ each))
         (λ s. WorksOrLeaves C.comes C.goes C.misses C.Reader.Read.remaining
-        C.Writer.Write.contents (arc_value shared.desk_key) each s.count connections s.connections
+        C.Writer.Write.contents (arc_value shared.clerks) each s.count connections s.connections
         worker (record {
           post = s.left.post;
           seen = s.left.sight;
@@ -180,19 +181,19 @@ fn spawn<
         })) }
 {
     let Shared {
-        desk_key,
+        clerks,
         has_thread,
         theirs,
     } = shared;
     let task = Task {
         worker: Snapshot::of(&worker),
         connections: Snapshot::of(&connections),
-        desk_key: Snapshot::of(&desk_key),
+        clerks: Snapshot::of(&clerks),
         each,
     };
     let body = move || -> Served<J, C>
         ensures { WorksOrLeaves C.comes C.goes C.misses C.Reader.Read.remaining
-            C.Writer.Write.contents (arc_value desk_key) each result.count connections
+            C.Writer.Write.contents (arc_value clerks) each result.count connections
             result.connections worker (record {
               post = result.left.post;
               seen = result.left.sight;
@@ -202,7 +203,7 @@ fn spawn<
     {
         let own = connections;
         let worker = worker;
-        serve_or_leave(&rt, alloc, own, &desk_key, worker, each, &theirs)
+        serve_or_leave(&rt, alloc, own, &clerks, worker, each, &theirs)
     };
     match thread::spawn_with(&rt, task, body) {
         Ok(handle) => Ok(handle),
@@ -222,15 +223,15 @@ fn start<
     rt: R,
     alloc: Global,
     connections: C,
-    desk_key: &Arc<CardKey, Global>,
+    clerks: &Arc<Clerks, Global>,
     worker: Worker<J>,
     each: u32,
 ) -> Started<J, C>
     ensures { MatchResult result
         (λ h. (h.promise.worker.value ≡ worker) × (h.promise.connections.value ≡ connections)
-        × (h.promise.desk_key.value ≡ arc_value desk_key.now) × (h.promise.each ≡ each))
+        × (h.promise.clerks.value ≡ arc_value clerks.now) × (h.promise.each ≡ each))
         (λ s. WorksOrLeaves C.comes C.goes C.misses C.Reader.Read.remaining
-        C.Writer.Write.contents (arc_value desk_key.now) each s.count connections s.connections
+        C.Writer.Write.contents (arc_value clerks.now) each s.count connections s.connections
         worker (record {
           post = s.left.post;
           seen = s.left.sight;
@@ -238,9 +239,9 @@ fn start<
           looks = 0;
         })) }
 {
-    match share(alloc, desk_key) {
+    match share(alloc, clerks) {
         Some(shared) => spawn(rt, alloc, connections, shared, worker, each),
-        None => Err(serve_own(&rt, alloc, connections, desk_key, worker, 0)),
+        None => Err(serve_own(&rt, alloc, connections, clerks, worker, 0)),
     }
 }
 
@@ -248,7 +249,7 @@ fn start<
 fn finish<J: Opening, C: Connections, R: Threads>(rt: &R, started: Started<J, C>) -> Served<J, C>
     ensures { MatchResult started
         (λ h. WorksOrLeaves C.comes C.goes C.misses C.Reader.Read.remaining
-        C.Writer.Write.contents h.promise.desk_key.value h.promise.each result.count
+        C.Writer.Write.contents h.promise.clerks.value h.promise.each result.count
         h.promise.connections.value result.connections h.promise.worker.value (record {
           post = result.left.post;
           seen = result.left.sight;
@@ -295,7 +296,7 @@ fn run<
     side: DeskSide<J, S>,
     workers: Vec<Worker<J>>,
     connections: &mut Vec<C>,
-    desk_key: &Arc<CardKey, Global>,
+    clerks: &Arc<Clerks, Global>,
     each: u32,
 ) -> Met<J, S>
     requires opens { OpensWith J.shows S.Store side.desk side.publisher.shown }
@@ -308,7 +309,7 @@ fn run<
     ensures replies { GivesReplies J.shows S.Store result.desk result.ended.board.shown }
     ensures capacity { vec_capacity connections.old ≤ vec_capacity connections.new }
     ensures parts { AllInTurn (TakesPart C.comes C.goes C.misses C.Reader.Read.remaining
-        C.Writer.Write.contents (arc_value desk_key.now) each result.ended.handled
+        C.Writer.Write.contents (arc_value clerks.now) each result.ended.handled
         result.ended.heard.got result.ended.board.shown result.are_whole) 0
         connections.old.items connections.new.items }
 {
@@ -322,13 +323,13 @@ fn run<
             are_whole: true,
         };
     };
-    let started = start(rt, alloc, own, desk_key, worker, each);
+    let started = start(rt, alloc, own, clerks, worker, each);
     let Met {
         desk,
         mut ended,
         fault,
         are_whole,
-    } = run(rt, alloc, watch, side, workers, connections, desk_key, each);
+    } = run(rt, alloc, watch, side, workers, connections, clerks, each);
     let Served {
         left,
         connections: own,
@@ -359,14 +360,14 @@ fn run_all<
     side: DeskSide<J, S>,
     workers: Vec<Worker<J>>,
     connections: &mut Vec<C>,
-    desk_key: &Arc<CardKey, Global>,
+    clerks: &Arc<Clerks, Global>,
     each: u32,
 ) -> (Desk<S>, Option<ServiceFault>, bool)
     requires opens { OpensWith J.shows S.Store side.desk side.publisher.shown }
     requires workers { AreWorkers (length connections.old.items) workers.items }
     requires within { side.workers ≡ length connections.old.items }
     ensures { ServesWorkers C.comes C.goes C.misses C.Reader.Read.remaining
-        C.Writer.Write.contents (arc_value desk_key.now) each connections.old.items
+        C.Writer.Write.contents (arc_value clerks.now) each connections.old.items
         connections.new.items result.2 J.shows S.Store side.desk result.0 result.1 }
 {
     let Met {
@@ -374,7 +375,7 @@ fn run_all<
         ended,
         fault,
         are_whole,
-    } = run(rt, alloc, watch, side, workers, connections, desk_key, each);
+    } = run(rt, alloc, watch, side, workers, connections, clerks, each);
     ended.close(&rt);
     (desk, fault, are_whole)
 }
@@ -415,7 +416,7 @@ fn serve_hall<
     side: DeskSide<J, S>,
     workers: Vec<Worker<J>>,
     connections: &mut Vec<C>,
-    desk_key: &Arc<CardKey, Global>,
+    clerks: &Arc<Clerks, Global>,
     each: u32,
     port: u16,
     writer: &mut W,
@@ -424,7 +425,7 @@ fn serve_hall<
     requires workers { AreWorkers (length connections.old.items) workers.items }
     requires within { side.workers ≡ length connections.old.items }
     ensures { ServesHall C.comes C.goes C.misses C.Reader.Read.remaining
-        C.Writer.Write.contents (arc_value desk_key.now) each port connections.old.items
+        C.Writer.Write.contents (arc_value clerks.now) each port connections.old.items
         connections.new.items J.shows S.Store side.desk result.0
         (W.contents writer.old) (W.contents writer.new) result.1 }
 {
@@ -437,13 +438,13 @@ fn serve_hall<
                 side,
                 workers,
                 connections,
-                desk_key,
+                clerks,
                 each,
             );
             (desk, tell_end(writer, are_whole, fault))
         }
         Err(fault) => {
-            let (desk, _, _) = run_all(rt, alloc, watch, side, workers, connections, desk_key, 0);
+            let (desk, _, _) = run_all(rt, alloc, watch, side, workers, connections, clerks, 0);
             (desk, Err(fault))
         }
     }
@@ -482,17 +483,13 @@ fn open_and_serve<
     requires shows { (H : History) → J.shows H → Shows (state S.Store desk) H }
     requires every { (H : History) → Shows (state S.Store desk) H → J.shows H }
     ensures { ServesPort C.comes C.goes C.misses C.Reader.Read.remaining
-        C.Writer.Write.contents web.desk_key web.each web.port connections.old.items
+        C.Writer.Write.contents web.clerks web.each web.port connections.old.items
         connections.new.items S.Store desk result.0
         (W.contents writer.old) (W.contents writer.new) result.1 }
 {
-    let Web {
-        port,
-        each,
-        desk_key,
-    } = web;
-    let desk_key = match Arc::new(alloc, desk_key) {
-        Ok(desk_key) => desk_key,
+    let Web { port, each, clerks } = web;
+    let clerks = match Arc::new(alloc, clerks) {
+        Ok(clerks) => clerks,
         Err(_) => return (desk, out_of_memory(writer)),
     };
     match Hall::new::<J, S, R>(&rt, alloc, opened, desk, connections.len()) {
@@ -503,7 +500,7 @@ fn open_and_serve<
             side,
             workers,
             connections,
-            &desk_key,
+            &clerks,
             each,
             port,
             writer,
@@ -538,7 +535,7 @@ pub fn serve_connections<
     writer: &mut W,
 ) -> (Desk<S>, Result<Exit, WriteFault>)
     ensures { ServesPort C.comes C.goes C.misses C.Reader.Read.remaining
-        C.Writer.Write.contents web.desk_key web.each web.port connections.old.items
+        C.Writer.Write.contents web.clerks web.each web.port connections.old.items
         connections.new.items S.Store desk result.0
         (W.contents writer.old) (W.contents writer.new) result.1 }
 {
@@ -574,7 +571,7 @@ pub fn serve<S: Alter, W: Write, R: Threads + Wait + Copy + Send + 'static, N: W
 ) -> (Desk<S>, Result<Exit, WriteFault>)
     ensures { ServesListener ⟦<Port as Connections>⟧.comes ⟦<Port as Connections>⟧.goes
         ⟦<Port as Connections>⟧.misses ⟦<TcpStream as Read>⟧.remaining
-        ⟦<Outgoing as Write>⟧.contents web.desk_key web.each web.port workers S.Store
+        ⟦<Outgoing as Write>⟧.contents web.clerks web.each web.port workers S.Store
         desk result.0 (W.contents writer.old) (W.contents writer.new) result.1 }
 {
     match ports(alloc, listener, workers) {

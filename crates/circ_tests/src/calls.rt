@@ -3,6 +3,7 @@
 
 use circ::{Connections, Exit, Report, WriteFault};
 use circ_audit::Finding;
+use clerks::Clerks;
 use desk::Desk;
 use hall::{Left, Opening, Worker};
 use sqlite::Alter;
@@ -10,7 +11,7 @@ use std::alloc::Global;
 use std::io::{Read, Write};
 use std::sync::Wait;
 use store::Store;
-use terms::{CardKey, Fault, Key, Tables};
+use terms::{Fault, Key, Tables};
 
 /// Handles one request given as words, and writes its line.
 pub fn one<S: Alter, W: Write>(
@@ -67,9 +68,9 @@ pub fn serve_many<J: Opening, C: Connections, R: Wait>(
     rt: &R,
     alloc: Global,
     connections: &mut C,
-    desk_key: &CardKey,
+    clerks: &Clerks,
     worker: Worker<J>,
     each: u32,
 ) -> Left<J> {
-    circ::work(rt, alloc, connections, desk_key, worker, each)
+    circ::work(rt, alloc, connections, clerks, worker, each)
 }

@@ -7,6 +7,7 @@ ghost use Rattle.hall.specs.Openings.{OpensWith};
 
 use crate::calls::serve_many;
 use circ::{Connections, Watch};
+use clerks::Clerks;
 use hall::{DeskSide, Hall, Left, Opened, Opening};
 use sqlite::MemStore;
 use std::alloc::Global;
@@ -129,7 +130,7 @@ fn serve_list<J: Opening, R: Wait + Abort>(
     rt: &R,
     alloc: Global,
     opened: Opened,
-    desk_key: &CardKey,
+    clerks: &Clerks,
     each: u32,
     room: usize,
 ) -> Result<(usize, usize), Fail>
@@ -145,7 +146,7 @@ fn serve_list<J: Opening, R: Wait + Abort>(
         ended: Vec::new(alloc),
     };
     let left = match workers.pop() {
-        Some(worker) => Some(serve_many(rt, alloc, &mut list, desk_key, worker, each)),
+        Some(worker) => Some(serve_many(rt, alloc, &mut list, clerks, worker, each)),
         None => None,
     };
     let told = end_hall(rt, alloc, side, left);
@@ -161,6 +162,7 @@ fn a_worker_serves_a_list(rt: HostRuntime) -> Result<(), Fail> {
     let Some(key) = CardKey::new(alloc, "deskkey00001")? else {
         return Err("no key".into());
     };
+    let clerks = Clerks::sole(alloc, key)?;
     for (each, room, met) in [
         (0, 4096, (0, 0)),
         (3, 4096, (3, 3)),
@@ -168,7 +170,7 @@ fn a_worker_serves_a_list(rt: HostRuntime) -> Result<(), Fail> {
         (9, 4096, (5, 5)),
         (5, 12, (5, 0)),
     ] {
-        let found = serve_list::<Brand, _>(&rt, alloc, Opened::new(alloc)?, &key, each, room)?;
+        let found = serve_list::<Brand, _>(&rt, alloc, Opened::new(alloc)?, &clerks, each, room)?;
         assert!(&rt; found == met, "{each} {room}: {found:?}");
     }
     Ok(())

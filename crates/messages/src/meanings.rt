@@ -179,7 +179,7 @@ struct Phrase {
     text: &'static str,
 }
 
-const SAYINGS: [Phrase; 6] = [
+const SAYINGS: [Phrase; 8] = [
     Phrase {
         line: "fault reading",
         text: "the copies file is missing or can't be read",
@@ -187,6 +187,10 @@ const SAYINGS: [Phrase; 6] = [
     Phrase {
         line: "fault network",
         text: "nobody listens on the port, no answer came, or the port is taken",
+    },
+    Phrase {
+        line: "fault keys",
+        text: "the file of keys can't be read, or a line of it isn't NAME ROLE KEY",
     },
     Phrase {
         line: "fault threads",

@@ -9,6 +9,6 @@ returns g c = inl (record {
   came = c.in-Some.ensures.came;
   told = c.serve-told.new.writer;
   result = c.serve-told.result;
-  served = c.serve-told.ensures;
+  served = c.serve-told.ensures.serves;
   ended = subst (λ (b : Bool). g.C.Connections.goes c.accept.new.self c.serve-told.new.writer b c.end.new.self) c.is_ok.ensures.value c.end.ensures;
 })

@@ -23,7 +23,7 @@ returns-clause-replies g t c =
 
 pub returns-clause-parts : goal.returns-clause-parts
 returns-clause-parts g t c =
-    let key = arc_value c.args.desk_key.now in
+    let clerks = arc_value c.args.clerks.now in
     let worker : Working = c.in-Some-Some.worker in
     let own = c.in-Some-Some.own in
     let rest = c.pop-2.new.self.items in
@@ -39,27 +39,27 @@ returns-clause-parts g t c =
     let workers : length c.args.workers.items ≡ k = ap length c.in-Some-Some.ensures.items ∙ length-append c.pop.new.self.items (worker ∷ []) in
     let owns : length c.args.connections.now.items ≡ length rest + 1 = ap length c.in-Some-Some.ensures'.items ∙ length-append rest (own ∷ []) in
     let number : k ≡ 0 + (length rest + 1) = omega (arith, workers, owns, c.requires.fellows) in
-    let works : WorksOrLeaves g.C.Connections.comes g.C.Connections.goes g.C.Connections.misses g.C.Reader.Read.remaining g.C.Writer.Write.contents key c.args.each now.count own now.connections worker left =
+    let works : WorksOrLeaves g.C.Connections.comes g.C.Connections.goes g.C.Connections.misses g.C.Reader.Read.remaining g.C.Writer.Write.contents clerks c.args.each now.count own now.connections worker left =
     joined c.start-started.result _ _ _ now
-    (λ d. WorksOrLeaves g.C.Connections.comes g.C.Connections.goes g.C.Connections.misses g.C.Reader.Read.remaining g.C.Writer.Write.contents key c.args.each d.count own d.connections worker
+    (λ d. WorksOrLeaves g.C.Connections.comes g.C.Connections.goes g.C.Connections.misses g.C.Reader.Read.remaining g.C.Writer.Write.contents clerks c.args.each d.count own d.connections worker
     (record { post = d.left.post; seen = d.left.sight; closing = d.left.closing; looks = 0 }))
     c.start-started.ensures c.finish-left.ensures
-    (λ h a b. at-these (λ key' each' own' worker'. WorksOrLeaves g.C.Connections.comes g.C.Connections.goes g.C.Connections.misses g.C.Reader.Read.remaining g.C.Writer.Write.contents key' each' now.count own' now.connections worker' left)
-    h.promise.desk_key.value key h.promise.each c.args.each h.promise.connections.value own h.promise.worker.value worker
+    (λ h a b. at-these (λ clerks' each' own' worker'. WorksOrLeaves g.C.Connections.comes g.C.Connections.goes g.C.Connections.misses g.C.Reader.Read.remaining g.C.Writer.Write.contents clerks' each' now.count own' now.connections worker' left)
+    h.promise.clerks.value clerks h.promise.each c.args.each h.promise.connections.value own h.promise.worker.value worker
     a.2 a.3 a.1 a.0 b)
     (λ x e. e) in
     let gone = c.run-desk.ensures.finishes.gone (length c.pop.new.self.items) (omega (arith, workers, c.requires.within)) in
     let whole : outer ≡ true → (taken.result ≡ true) × (now.count ≡ c.args.each) = λ is. ((c.is_whole.ensures is).1, (c.is_whole.ensures is).2) in
     let shown = ap (λ b. b.shown) same.2 in
-    let Now = TakesPart g.C.Connections.comes g.C.Connections.goes g.C.Connections.misses g.C.Reader.Read.remaining g.C.Writer.Write.contents key c.args.each taken.new.self.handled taken.new.self.heard.got taken.new.self.board.shown outer in
+    let Now = TakesPart g.C.Connections.comes g.C.Connections.goes g.C.Connections.misses g.C.Reader.Read.remaining g.C.Writer.Write.contents clerks c.args.each taken.new.self.handled taken.new.self.heard.got taken.new.self.board.shown outer in
     let mine : Now k own now.connections =
-    others g.C.Connections.comes g.C.Connections.goes g.C.Connections.misses g.C.Reader.Read.remaining g.C.Writer.Write.contents key c.args.each was.handled was.heard.got was.board.shown taken.new.self.handled taken.new.self.heard.got
+    others g.C.Connections.comes g.C.Connections.goes g.C.Connections.misses g.C.Reader.Read.remaining g.C.Writer.Write.contents clerks c.args.each was.handled was.heard.got was.board.shown taken.new.self.handled taken.new.self.heard.got
     taken.new.self.board.shown outer outer same.0 same.1 shown (λ is. is) k own now.connections
-    (takes-part g.C.Connections.comes g.C.Connections.goes g.C.Connections.misses g.C.Reader.Read.remaining g.C.Writer.Write.contents key c.args.each was.handled was.heard.got was.board.shown outer taken.result now.count k own now.connections
+    (takes-part g.C.Connections.comes g.C.Connections.goes g.C.Connections.misses g.C.Reader.Read.remaining g.C.Writer.Write.contents clerks c.args.each was.handled was.heard.got was.board.shown outer taken.result now.count k own now.connections
     worker left last.1 works taken.ensures.first gone taken.ensures.part whole) in
     let before : AllInTurn Now 0 rest mid =
     all-map _ Now
-    (λ j x y part. others g.C.Connections.comes g.C.Connections.goes g.C.Connections.misses g.C.Reader.Read.remaining g.C.Writer.Write.contents key c.args.each was.handled was.heard.got was.board.shown taken.new.self.handled taken.new.self.heard.got
+    (λ j x y part. others g.C.Connections.comes g.C.Connections.goes g.C.Connections.misses g.C.Reader.Read.remaining g.C.Writer.Write.contents clerks c.args.each was.handled was.heard.got was.board.shown taken.new.self.handled taken.new.self.heard.got
     taken.new.self.board.shown c.run-desk.result.are_whole outer same.0 same.1 shown (λ is. (c.is_whole.ensures is).0) j x y part)
     0 rest mid c.run-desk.ensures.parts in
     let lengths : length rest ≡ length mid = all-length Now 0 rest mid before in
