@@ -5,6 +5,7 @@ use sqlite::{Error, ErrorCode, Wary};
 use sqlite_std_file::OpenError;
 use std::fs::{self, File};
 use std::io::{self, ErrorKind, Read};
+use std::os::unix::fs::PermissionsExt;
 use terms::SCHEMA;
 
 /// The first bytes of a database file.
@@ -50,6 +51,17 @@ pub fn is_held(rt: &HostRuntime, path: &str) -> bool {
     match sqlite_std_file::open(rt, path, Wary) {
         Err(OpenError::Busy) => true,
         _ => false,
+    }
+}
+
+/// The permission of all other users to read.
+const OTHERS_READ: u32 = 0o004;
+
+/// Returns whether every user may read the file.
+pub fn are_keys_open(rt: &HostRuntime, path: &str) -> bool {
+    match fs::metadata(rt, path) {
+        Ok(file) => file.permissions().mode() & OTHERS_READ != 0,
+        Err(_) => false,
     }
 }
 

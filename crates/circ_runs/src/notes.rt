@@ -1,7 +1,9 @@
 //! Messages to people on standard error.
 
-use crate::files::{cause, is_database};
+use crate::files::{are_keys_open, cause, is_database};
 use circ::{ArgumentForm, Exit, Run, Watch, wrong_argument};
+use front::KeysFault;
+use itoa::Buffer;
 use messages::{
     Handler, ToldLine, explain, explain_words, meaning, wanted, write_usage, write_usage_of,
     write_wanted,
@@ -159,6 +161,39 @@ pub fn say_new(rt: &HostRuntime, path: &str) -> Result<(), WriteFault> {
         &mut rt.stderr(),
         path,
         "there was no library; a new one was made",
+    )
+}
+
+/// Says why a file gives no clerks.
+pub fn say_unread_keys(rt: &HostRuntime, path: &str, fault: KeysFault) -> Result<(), WriteFault> {
+    let line = match fault {
+        KeysFault::Line(line) => line,
+        KeysFault::Read => return write_note(&mut rt.stderr(), path, "the file can't be read"),
+        KeysFault::Memory => return Ok(()),
+    };
+    write_pieces(
+        &mut rt.stderr(),
+        &[
+            b"circ: ",
+            path.as_bytes(),
+            b": line ",
+            Buffer::new().format(line).as_bytes(),
+            b": wanted is NAME ROLE KEY, parted by single spaces: a name of 1 to 16 ASCII letters and \
+              digits, desk or lending, and a key of 8 to 32; no name and no key twice, at most 99 lines, \
+              and a newline at the end of each\n",
+        ],
+    )
+}
+
+/// Says so if others than the owner of a file of keys may read it.
+pub fn say_unsafe_keys(rt: &HostRuntime, path: &str) -> Result<(), WriteFault> {
+    if !are_keys_open(rt, path) {
+        return Ok(());
+    }
+    write_note(
+        &mut rt.stderr(),
+        path,
+        "other users may read these keys: take that from them with chmod o-r",
     )
 }
 
