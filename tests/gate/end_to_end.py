@@ -145,7 +145,7 @@ BAD_WORDS = [
     ["file", "FILE", "k 1", "begin-day", "2026-03-03"],
     ["file", "FILE", "k_1", "begin-day"],
     ["files", "FILE", "k1", "begin-day"],
-    ["--help"],
+    ["--helps"],
     [b"file", b"FILE", b"k1", b"begin-day", b"2026-03-0\xff"],
 ]
 
@@ -153,7 +153,7 @@ BAD_WORDS = [
 # These are read once the file is open, and change nothing in it.
 BAD_REQUESTS = [
     [""],
-    ["help"],
+    ["helps"],
     ["begin-day"],
     ["begin-day", "2026-3-3"],
     ["begin-day", "2026-03-03", "again"],

@@ -19,7 +19,8 @@ from contextlib import closing
 import room  # finds lib and reference
 from lib.checking import check, part, run_script
 from lib.messages import (
-    COMMANDS, CUT, FOREIGN, HELD, JOURNAL, LATER, MEANINGS, NO_DATABASE, NOT_UNDERSTOOD, OLDER, READ_ONLY, RUNS, SCHEMA, UNWRITABLE, UNWRITTEN, USAGES, makes_library, message,
+    COMMANDS, CUT, FOREIGN, HELD, JOURNAL, LATER, MEANINGS, NO_DATABASE, NOT_UNDERSTOOD, OLDER, READ_ONLY, RUNS, SCHEMA, UNWRITABLE, UNWRITTEN, USAGES, VERSION, makes_library, message,
+    of_run,
 )
 from lib.program import program
 from reference.outer_forms import WORDS, is_card_key, is_day, is_mask, is_name, is_number
@@ -79,7 +80,7 @@ def words_of_commands(path):
 
 def words_of_runs(path):
     """Words that are no run."""
-    for words in ([], ["help"], ["file", path, "k1"], ["import", path], ["migrate"], ["migrate", path, "again"], ["serve", path, "1", "1", "1"]):
+    for words in ([], ["file", path, "k1"], ["import", path], ["migrate"], ["migrate", path, "again"], ["serve", path, "1", "1", "1"]):
         asks(words, NOT_UNDERSTOOD)
     for key in ("", "k 1", "k" * 41):
         asks(["file", path, key, "page", "1"], NOT_UNDERSTOOD)
@@ -201,6 +202,18 @@ def file_system_to_read(place, path):
         subprocess.run(["umount", folder], check=True)
 
 
+def asked_for(path):
+    """Help and the version go to standard output where they are asked for, and the run ends well."""
+    version = f"circ {VERSION}, schema {SCHEMA}\n"
+    for word, lines in (("help", of_run([])), ("--help", of_run([])), ("-h", of_run([])), ("--version", version), ("-V", version)):
+        run = subprocess.run([PROGRAM, word], capture_output=True, timeout=120, check=False)
+        check(word, (run.stdout.decode(), run.stderr, run.returncode), (lines, b"", 0))
+        with open("/dev/full", "wb") as full:
+            run = subprocess.run([PROGRAM, word], stdout=full, stderr=subprocess.PIPE, timeout=120, check=False)
+        check(f"no room for {word}", (run.returncode, run.stderr), (3, UNWRITTEN))
+        asks([word, path], "words not understood\n")
+
+
 def parallel(place):
     """Runs on one library at once wait for one another."""
     path = os.path.join(place, "shared.db")
@@ -218,6 +231,7 @@ def main():
         part(files_of_libraries, place, path)
         part(log_of_another, place, path)
         part(file_system_to_read, place, path)
+        part(asked_for, path)
         part(parallel, place)
     check("the manual page lacks nothing", (list(COMMANDS), len(MEANINGS) >= 40, len(USAGES)), (list(WORDS), True, len(RUNS)))
 

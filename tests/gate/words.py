@@ -2,7 +2,7 @@
 """Compares what documents say of the words with the program's own tables, as its source has them.
 
     tests/gate/words.py            compares
-    tests/gate/words.py --write    writes the copies of the table of commands anew first: in the manual page, the completion and the desk's page
+    tests/gate/words.py --write    writes the copies of the table of commands anew first: in the manual page and the desk's page
 
 The table of commands (`crates/terms/src/form.rt`): each command and its parts stand so in the manual page, its name in the completion for bash
 and in the table of the rules. The numbers of refusals and faults (`crates/terms/src/refusal.rt`, `fault.rt`): what each means stands in one way in the
@@ -22,6 +22,7 @@ from difflib import unified_diff
 from room import TOP
 from lib.checking import check, none, run_script
 from lib.messages import SCHEMA, VERSION, of_manual, read
+from lib.program import program
 from reference.outer_forms import WORDS
 
 NAMING = ("README.md", "docs/PROOFS.md", "docs/WRONG-BODIES.md", "docs/GATE.md", "docs/CHANGING.md", "docs/TESTS.md", "docs/RULES.md", "docs/ARCHITECTURE.md", "docs/CONTRACTS.md", "docs/DECISIONS.md")
@@ -57,8 +58,14 @@ def heads(manual, table):
 def write(table):
     """Writes the copies of the table of commands."""
     put("pages/commands.js", r"^export const COMMANDS = \{\n(.*?)^\};", "".join(f'  "{name}": [{", ".join(f"{chr(34)}{it}{chr(34)}" for it in parts)}],\n' for name, parts in table.items()))
-    put("docs/circ.bash", r'local commands="([^"]*)"', " ".join(table))
     put("docs/circ.1", r"(^\.Sh COMMANDS.*?)^\.Sh FILES", heads(read("docs/circ.1"), table))
+
+
+def completed(*words):
+    """The words that bash completes after these words of the program."""
+    said = 'source "$0"; COMP_CWORD=$#; COMP_WORDS=("$@" ""); _circ; printf "%s\\n" "${COMPREPLY[@]}"'
+    run = subprocess.run(["bash", "-c", said, f"{TOP}/docs/circ.bash", program(), *words], capture_output=True, text=True, timeout=60, check=True)
+    return run.stdout.split()
 
 
 def numbers(path):
@@ -162,8 +169,8 @@ def main():
     check("the commands of the table", list(table), list(WORDS))
     runs, words, told = of_manual(read("docs/circ.1"))
     check("the manual page's commands", words, table)
-    completed = re.search(r'local commands="([^"]*)"', read("docs/circ.bash")).group(1).split()
-    check("the completion's words", completed, list(table))
+    check("the completion's words", completed("file", "town.db", "k1"), list(table))
+    check("the completion's words of what is sent", completed("send", "8080", "deskkey00001", "k1"), list(table))
     ruled = re.findall(r"^\| `([a-z-]+)(?: [A-Z ]+)?` \| [^|]* \| `([a-z-]+)[ `]", read("docs/RULES.md"), re.M)
     check("the commands of the rules", sorted(name for name, _ in ruled), sorted(table))
     check("the examples of the rules", [name for name, example in ruled if name != example], [])

@@ -111,8 +111,32 @@ fn run_together<R: Threads + Wait + Copy + Send + 'static>(
     }
 }
 
+/// Writes the usage or the version on standard output, if the words ask for it.
+fn tell_asked(rt: &HostRuntime, words: &[String]) -> Option<Result<(), WriteFault>> {
+    let [word] = words else {
+        return None;
+    };
+    match word.as_str() {
+        "help" | "--help" | "-h" => Some(write_usage(&mut io::writer(rt), SCHEMA)),
+        "--version" | "-V" => Some(write_version(&mut io::writer(rt), SCHEMA)),
+        _ => None,
+    }
+}
+
 /// Answers words that aren't a run.
 fn without_run(rt: &HostRuntime, words: &[String]) -> Exit {
+    match tell_asked(rt, words) {
+        Some(Ok(())) => Exit::Done,
+        Some(Err(_)) => {
+            let _ = say_unwritten(rt);
+            Exit::Faulted
+        }
+        None => without_meaning(rt, words),
+    }
+}
+
+/// Answers words that mean nothing.
+fn without_meaning(rt: &HostRuntime, words: &[String]) -> Exit {
     match not_understood(&mut io::writer(rt)) {
         Ok(exit) => {
             let _ = say_misread(rt, words);

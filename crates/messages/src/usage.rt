@@ -101,6 +101,11 @@ pub fn write_usage<W: Write>(writer: &mut W, schema: u32) -> Result<(), WriteFau
         write_bytes(writer, b"  ")?;
         write_form(writer, form.name, form.parts)?;
     }
+    write_version(writer, schema)
+}
+
+/// Writes the version and the library schema.
+pub fn write_version<W: Write>(writer: &mut W, schema: u32) -> Result<(), WriteFault> {
     write_pieces(
         writer,
         &[
