@@ -3,7 +3,7 @@
 
     tests/gate/fuzz.py [SEED [CASES]]
 
-The seed decides every case. Each round has a library of its own, which begins as the small one. Its requests come over a socket to
+The seed decides every case. Each round has a library of its own, which begins as the small one; every second one has three clerks in a file of keys. Its requests come over a socket to
 `circ serve`, one after another, and then its copies files by `circ import`; each answer has to be, byte by byte, that of `outer_forms`
 and `desk_rules`, which were written from the rules, and so has each row at the end of the round. A case has a minute; none may crash
 or hang the program.
@@ -28,6 +28,7 @@ import room  # finds lib and reference
 from lib import runs
 from lib.checking import apart, check, count, counts, run_script
 from lib.messages import message
+from lib.questions import FORMS as FORMS_OF_QUESTIONS
 from lib.runs import GROUND, PROGRAM, say
 from lib.serving import DESK_KEY, Serving, everything
 from reference.desk_rules import CORRECTIONS, QUESTIONS, SEARCHES, Library
@@ -47,11 +48,14 @@ ODD_DAYS = ["2026-3-3", "2026-02-29", "2028-02-29", "2026-13-01", "2191-01-01", 
 GRACE = ["0", "1", "1", "1", "2", "3", "365", "366"]
 PATRONS, TITLES, COPIES = ["1", "2", "3"], ["100", "200", "300"], ["10", "11", "20", "30"]
 AFTERS = ["0", "0", "0", "1", "2", "10", "4294967295"]  # from which a list goes on
-# What questions and corrections mostly name, by their words.
+DAYS_AFTER = ["0", "0", "20514", "20515", "20521", "20550", "84005"]  # and a list of days
+NAMED = {"P": PATRONS, "C": COPIES, "B": PATRONS, "T": TITLES, "K": ["1", "1", "2"], "A": AFTERS}
+# What questions, corrections and what lends mostly name, by their words.
 MOSTLY = {
-    "copy": [COPIES], "copies": [TITLES, AFTERS], "queue": [TITLES, AFTERS], "account": [PATRONS, AFTERS], "debts": [AFTERS], "borrower": [PATRONS], "find-patrons": [AFTERS], "find-titles": [AFTERS],
+    **{name: [NAMED[it] for it in form.split() if it in NAMED] for name, form in FORMS_OF_QUESTIONS.items()},
+    "check-out": [PATRONS, COPIES, ["1", "1", "2"]], "check-in": [COPIES, ["1", "2"]], "renew": [["1", "2", "3"]],
     "card-key": [PATRONS], "amend-patron": [PATRONS, ["1", "1", "2"]], "amend-branch": [["1", "2"], ["0", "3", "60", "61"]], "amend-title": [TITLES], "amend-copy": [COPIES, ["1", "2"]],
-    "rehome": [COPIES, ["1", "2"]], **{name: [PATRONS, AFTERS] for name in ("overdue", "shelf", "pulls", "transits")},
+    "rehome": [COPIES, ["1", "2"]], "closed-days": [["1", "2"], DAYS_AFTER],
 }
 SOUGHT = ["n", "bell ann", "ÁNN", "R c", "o", "rivers NORTH", "s  r", "bucher", "日本", "x", "7", "maps old"]
 MASKS, ODD_MASKS = ["ooooooc", "coooooc", "ooooooo"], ["ccccccc", "oooooo", "oooooooo", "OOOOOOO", "oooooox"]
@@ -59,6 +63,7 @@ NAMES = ["Main", "Hill", "Rivers of the North", "Salt Roads", "Night Ferries", "
 ODD_NAMES = ["", " Hill", "Hill ", "x" * 121, "ü" * 60, "ü" * 60 + "x", "a\nb", "a\tb", "a\x7fb", "a\x00b", "-Hill"]
 CARD_KEYS = ["cardkey00001", "cardkey00002", "cardkey00003"]
 ODD_CARD_KEYS = ["cardkey00009", "short", "c" * 8, "c" * 32, "c" * 33, "card-key-1", "cardkey0000\u00e9", "", DESK_KEY.upper(), "CARDKEY00001"]
+CLERKS = [("ann", "desk", "annkey000001"), ("bo", "desk", "bokey0000001"), ("kiosk", "lending", "kioskkey0001")]
 FORMS = {is_day: (DAYS, ODD_DAYS), is_mask: (MASKS, ODD_MASKS), is_name: (NAMES, ODD_NAMES), is_card_key: (CARD_KEYS, ODD_CARD_KEYS)}
 METHODS = ["GET", "POST", "PUT", "DELETE", "get", "Post", "G", "HEAD", "OPTIONS", "G\u00cbT", "", "GET,", "M-SEARCH"]
 VERSIONS = ["HTTP/1.0", "HTTP/1.1", "HTTP/1.1", "HTTP/1.1", "HTTP/1.2", "HTTP/2.0", "HTTP/0.9", "http/1.1", "HTTP/1.1 ", "HTTP/1.", "HTTP/11", ""]
@@ -79,6 +84,9 @@ class Cases:
 
     def __init__(self, rng, number):
         self.rng, self.number, self.count, self.keys, self.before = rng, number, 0, [], [b"", b"x"]
+        # the keys of the desk, as often as they are shown
+        ann, bo, kiosk = (key for _, _, key in CLERKS)
+        self.clerks, self.desk_keys = (CLERKS, [ann, bo, kiosk, kiosk]) if number % 2 else (DESK_KEY, [DESK_KEY])
 
     def odd(self, chance):
         return self.rng.random() < chance
@@ -193,8 +201,8 @@ class Cases:
         return self.keys[-1]
 
     def fields(self, route, patron, body):
-        own = DESK_KEY if route == "desk" else f"cardkey{patron:0>5}"
-        shown = own if self.odd(0.93) else self.rng.choice([*CARD_KEYS, *ODD_CARD_KEYS, DESK_KEY])
+        own = self.rng.choice(self.desk_keys) if route == "desk" else f"cardkey{patron:0>5}"
+        shown = own if self.odd(0.93) else self.rng.choice([*CARD_KEYS, *ODD_CARD_KEYS, DESK_KEY, *self.desk_keys])
         fields = [("Desk-Key" if route == "desk" else "Card-Key", shown)]
         if route != "page" or self.odd(0.05):
             fields.append(("Request-Key", self.own_key()))
@@ -343,10 +351,10 @@ def exchange(port, pieces):
 
 def ask_all(cases, path, library, where, seen, shown):
     """All requests of a round."""
-    with Serving(path, REQUESTS) as serving:
+    with Serving(path, REQUESTS, clerks=cases.clerks if cases.clerks != DESK_KEY else None) as serving:
         for at in range(REQUESTS):
             request = cases.next_request()
-            status, wanted = answer_to(library, DESK_KEY, request)
+            status, wanted = answer_to(library, cases.clerks, request)
             check(f"{where}, request {at}: {request!r}", exchange(serving.port, cases.pieces(request)), wanted)
             seen[f"answers {status}"] += 1
             shown.update([question_of(request)] if status == 200 else [])
@@ -374,7 +382,7 @@ def take_in_all(cases, path, library, where, seen):
 
 
 def play(ground, library, seed, number):
-    """One round: how often each status came, each question was answered and each correction accepted, how many holds have a first day, and how often grace days were set."""
+    """One round: how often each status came, each question was answered and each correction accepted, how many holds have a first day, how often grace days were set, and whose hands there were."""
     cases, seen, shown, where = Cases(random.Random(f"{seed} {number}"), number), Counter(), Counter(), f"seed {seed}, round {number}"
     with tempfile.TemporaryDirectory() as folder:
         path = os.path.join(folder, "round.db")
@@ -383,6 +391,7 @@ def play(ground, library, seed, number):
         take_in_all(cases, path, library, where, seen)
         runs.the_rows_are(path, library)
     accepted = Counter(text.partition(" ")[0] for text, _ in library.kept.values())
+    accepted += Counter(f"by {key.partition('/')[0]}" for _, key in library.kept if "/" in key)
     return seen, shown, sum(hold["first"] is not None for hold in library.holds.values()), accepted
 
 
@@ -408,8 +417,9 @@ def main(seed=SEED, cases=CASES):
     check("each question was answered", [name for name in QUESTIONS if not shown[name]], [])
     check("holds with a first day were placed, and grace days set", (first_days > 0, accepted["grace"] > 0), (True, True))
     check("each correction was accepted", [name for name in CORRECTIONS if not accepted[name]], [])
-    told = ", ".join(f"{many} {name}" for name, many in sorted(seen.items()))
-    print(f"fuzz: {seen.total()} cases by the seed {seed} in {time.monotonic() - began:.0f} seconds, {first_days} holds from a day on, {shown.total() - shown['none']} questions answered, {sum(accepted[name] for name in CORRECTIONS)} corrections accepted, grace days set {accepted['grace']} times: {told}")
+    check("requests of each clerk were accepted", [name for name, _, _ in CLERKS if not accepted[f"by {name}"]], [])
+    told, hands = ", ".join(f"{many} {name}" for name, many in sorted(seen.items())), ", ".join(f"{many} {name}" for name, many in sorted(accepted.items()) if name.startswith("by "))
+    print(f"fuzz: {seen.total()} cases by the seed {seed} in {time.monotonic() - began:.0f} seconds, {first_days} holds from a day on, {shown.total() - shown['none']} questions answered, {sum(accepted[name] for name in CORRECTIONS)} corrections accepted, grace days set {accepted['grace']} times, accepted {hands}: {told}")
 
 
 if __name__ == "__main__":

@@ -26,7 +26,7 @@ from room import TOP
 from lib.checking import check, need, part, run_script
 from lib.messages import DISK, FREE, message
 from lib.runs import GROUND, HEADER, PROGRAM, rows, say, the_rows_are, whole
-from lib.serving import ANNS_PAGE, DESK_KEY, PAGE_OF_ANN, answer, everything, started
+from lib.serving import ANNS_PAGE, DESK_KEY, PAGE_OF_ANN, answer, everything, put_keys, started
 from reference.desk_rules import Library
 from migrate import DONE, HOLDS, led_up, schema_of, stages, with_many_rows
 
@@ -127,7 +127,8 @@ def one_request_in_a_file(folder, refusing, everything):
         plain = refusing.run([PROGRAM, *run_words], 0)
         check(f"{words}", (plain.returncode, line in (None, plain.stdout.decode()[:-1])), (0, True))
         after = whole(path)
-        for number in places(refusing.count(), 40, everything):
+        # the first ones, too, which are for the words of the run
+        for number in sorted({*range(1, 9), *places(refusing.count(), 40, everything)}):
             copied(base, path)
             run = refusing.run([PROGRAM, *run_words], number)
             where, found = f"{words}, request {number} refused", (run.stdout, run.returncode, whole(path))
@@ -329,6 +330,30 @@ def a_board_that_cannot_grow(folder, refusing):
         if met == 3:
             break
     check("the board could not grow after a commit", met > 0, True)
+
+
+def keys_without_memory(folder, refusing):
+    """A file of keys that is read while a request for memory is refused is told as 90 and never as a bad one, and no library is made then; with memory all goes on, up to the port that is taken or on which nobody listens."""
+    path, absent, told = os.path.join(folder, "desk.keys"), os.path.join(folder, "absent.db"), Counter()
+    put_keys(path, [(f"{at:04}{'n' * 12}", "desk", f"{at:04}{'k' * 28}") for at in range(99)])
+    with socket.socket() as taken:
+        taken.bind(("127.0.0.1", 0))
+        port, most = str(taken.getsockname()[1]), 0
+        for words in (["send", port, f"@{path}", "q", "today"], ["serve", absent, port, "1", "1", f"@{path}"]):
+            plain = refusing.run([PROGRAM, *words], 0)
+            check(f"{words[0]}, with memory", (plain.stdout, plain.returncode), (b"fault network\n", 3))
+            # what a run that serves asks for later is for the library's file, which other parts refuse
+            most = most or refusing.count()
+            for number in range(1, most + 1):
+                for end in ("", "-wal"):
+                    if os.path.exists(absent + end):
+                        os.remove(absent + end)
+                run = refusing.run([PROGRAM, *words], number)
+                ends = [(f"fault {it}\n".encode(), 3) for it in ("90", "network", *["91"] * (words[0] == "serve" and os.path.exists(absent)))]
+                check(f"{words[0]}, request {number} refused: {run.stdout}", (run.stdout, run.returncode) in ends, True)
+                told[words[0], run.stdout.decode().strip(), os.path.exists(absent)] += 1
+    check("the file was read without memory", (told["send", "fault 90", False] > 0, told["serve", "fault 90", False] > 0), (True, True))
+    print(f"refused: one request for memory while a file of keys is read: {dict(told)}")
 
 
 def missing_threads(folder, refusing):
@@ -593,6 +618,7 @@ def main():
         part(one_request_of_the_web, folder, refusing, everything)
         part(routes_without_memory, folder, refusing)
         part(a_board_that_cannot_grow, folder, refusing)
+        part(keys_without_memory, folder, refusing)
         part(missing_threads, folder, refusing)
         part(sockets_without_a_limit, folder, refusing)
         part(memory, folder, everything)

@@ -33,7 +33,7 @@ from lib.messages import UNWRITTEN, message
 from lib.questions import FORMS, every_question
 from lib.runs import GROUND, HEADER, PROGRAM, circ, digest, rows, whole
 from lib.serving import (
-    ANN, ANNS_PAGE, BO, DESK_KEY, FAILED, HOLD, PAGE_OF_ANN, Serving, a_library, answer, by_patron, everything, free_port, hold_with, is_let_go, started, told,
+    ANN, ANNS_PAGE, BO, DESK_KEY, FAILED, HOLD, PAGE_OF_ANN, Serving, a_library, answer, by_patron, everything, free_port, hold_with, is_let_go, put_keys, started, told,
 )
 from reference.desk_rules import QUESTIONS, Library
 from reference.outer_forms import said
@@ -248,7 +248,7 @@ EXAMPLES = {
 }
 
 # What is asked at random, of few copies, holds and loans, which get in each other's way. Letters stand for a patron, a copy, a branch, a title, a hold, a loan, a day to come, a number of days, a
-# number from which a list goes on, today, a kind, a name, a card key, and a text to be searched.
+# number from which a list goes on, today, a kind, a name, a card key, a text to be searched, and weekdays; S for one of the requests that set something.
 AT_RANDOM = ["check-out P C B", "check-out P C B", "check-out P C B", "check-in C B", "check-in C B", "check-in C B", "check-in C B", "place-hold P T B", "place-hold-from P T B D",
              "place-hold-from P T B D", "cancel-hold H", "renew L", "unshelve H", "unshelve-cancelled H", "missing C", "begin-day D", "grace 1 1 G", "card-key P Y", "amend-patron P K X", "amend-branch B G X", "amend-title T X", "amend-copy C K 900", "rehome C B", "S"]
 SET_AT_RANDOM = ["close-day B D", "close-day B D", "open-day B D", "week B M", "kind K 9 9 1000000", "rule K 1 3 2 10 50"]
@@ -261,14 +261,17 @@ MASKS = ["ooooooc", "coooooc", "ooooooo"]
 SOUGHT = ["n", "BELL an", "asa", "ŁUĆ sa", "zoe aro", "ri th", "7", "s  r"]
 TURNS = 2_400
 # What holds with a first day have to meet in these turns: what the state of one was before a request, and after it.
+CLERKS = [("ann", "desk", "annkey000001"), ("bo", "desk", "bokey0000001"), ("kiosk", "lending", "kioskkey0001")]
 SHOWN = Counter()  # how often each question was shown rows
 MET = {("waiting", "coming"), ("waiting", "ready"), ("waiting", "cancelled"), ("coming", "ready"), ("ready", "filled"), ("ready", "waiting"), ("ready", "cancelled")}
 
 
 class Turns:
-    """Random requests, and what holds with a first day met by them."""
+    """Random requests, of a desk with one key or of clerks, and what holds with a first day met by them."""
 
-    def __init__(self, seed):
+    def __init__(self, seed, clerks):
+        self.clerks = clerks or DESK_KEY
+        self.desk_keys = [key for _, role, key in clerks for _ in range(6 if role == "desk" else 1)] if clerks else [DESK_KEY]
         self.draw, self.library, self.met, self.passed_over, self.shown = random.Random(seed), Library(), set(), 0, Counter()
 
     def question(self):
@@ -310,7 +313,7 @@ class Turns:
     def handle(self, patron, shown, key, words):
         """The line by the rules."""
         before, is_awaited = self.states(), words[0] == "check-in" and self.awaited(int(words[1]))
-        line = said(self.library, DESK_KEY, patron, shown, key, words)
+        line = said(self.library, self.clerks, patron, shown, key, words)
         self.passed_over += is_awaited and " shelf " in line
         self.met.update((before.get(it), now) for it, now in self.states().items() if before.get(it) != now)
         return line
@@ -318,23 +321,23 @@ class Turns:
 
 def at_random(folder, workers):
     """Random requests of the desk and of patrons, on a small library: each answer is that of the rules, and so is a page and a question after each, and each row at the end."""
-    path, seed = a_library(folder, "random.db"), random.randrange(10**9)
-    turns, draw = Turns(seed), random.Random(seed + 1)
+    path, seed, clerks = a_library(folder, "random.db"), random.randrange(10**9), CLERKS if workers == 2 else None
+    turns, draw = Turns(seed, clerks), random.Random(seed + 1)
     for key, words, _ in GROUND:
         turns.library.handle(key, words)
     print(f"web: {TURNS} turns at random by the seed {seed}, {workers} workers")
-    with Serving(path, 3 * (len(BEFORE) + TURNS), workers=workers) as serving:
+    with Serving(path, 3 * (len(BEFORE) + TURNS), workers=workers, clerks=clerks) as serving:
         for at in range(-len(BEFORE), TURNS):
             words, number = shlex.split(BEFORE[at]) if at < 0 else turns.words(), draw.choice("123")
             is_own = words[0] in BY_PATRONS and draw.random() < 0.5
             patron = int(words[1] if words[0].startswith("place") else number) if is_own else None
-            shown, key = turns.card_key(patron) if is_own else DESK_KEY, f"t{at}"
+            shown, key = turns.card_key(patron) if is_own else draw.choice(turns.desk_keys[: None if at >= 0 else 1]), f"t{at}"
             wanted = told(turns.handle(patron, shown, key, words))
-            found = serving.ask(*by_patron(patron, shown, key, words))[:2] if is_own else serving.desk(key, words)
+            found = serving.ask(*by_patron(patron, shown, key, words))[:2] if is_own else serving.desk(key, words, shown)
             check(f"turn {at} by the seed {seed}: {words} of {patron or 'the desk'}", found, wanted)
             shown = turns.card_key(int(number))
             page = serving.ask(*by_patron(int(number), shown, "", ["page", number]))[:2]
-            check(f"the page of {number} after turn {at} by the seed {seed}", page, told(said(turns.library, DESK_KEY, int(number), shown, "", ["page", number])))
+            check(f"the page of {number} after turn {at} by the seed {seed}", page, told(said(turns.library, turns.clerks, int(number), shown, "", ["page", number])))
             question, line = turns.question()
             # a question passes over the key of the request before it
             check(f"{question} after turn {at} by the seed {seed}", serving.desk(key, question), told(line))
@@ -540,9 +543,10 @@ def is_lost(serving, path, number):
 
 
 def no_key_is_told(folder):
-    """Whatever is asked and shown, no answer, line or message has the desk's key, a card key or a key of a request in it."""
+    """Whatever is asked and shown, no answer, line or message has a key of the desk or of a clerk, a card key or a key of a request in it."""
     path, heard = a_library(folder, "secret.db"), []
-    keys = card, wrong, desk_key, own = "9card9card9", "8wrong8wrong", "7desk7desk7", "6request-6"
+    keys = card, wrong, desk_key, own, clerks_key = "9card9card9", "8wrong8wrong", "7desk7desk7", "6request-6", "5clerk5clerk5"
+    good, bad = put_keys(os.path.join(folder, "good.keys"), [("ann", "desk", clerks_key)], 0o644), put_keys(os.path.join(folder, "bad.keys"), f"ann desk {clerks_key}\nbo desk {clerks_key}\n".encode())
 
     def run(*words):
         ran = subprocess.run([PROGRAM, *words], capture_output=True, timeout=60)
@@ -557,7 +561,8 @@ def no_key_is_told(folder):
         run("file", path, f"{own}-{words[0]}", *words)
     check("the patron is there", rows(path, "SELECT card_key FROM patrons WHERE patron = 4"), [(card,)])
     for words in (["file", path, card + "_", "page", "4"], ["import", path, copies], ["import", path, own], ["report", path, "shelf", card],
-                  ["serve", path, "0", "1", "1", desk_key], ["serve", folder, str(free_port()), "1", "1", desk_key], [desk_key]):
+                  ["serve", path, "0", "1", "1", desk_key], ["serve", folder, str(free_port()), "1", "1", desk_key], [desk_key],
+                  ["serve", folder, str(free_port()), "1", "1", f"@{good}"], ["serve", path, str(free_port()), "1", "1", f"@{bad}"], ["send", "1", f"@{good}", own, "page", "4"], ["send", "1", f"@{bad}", own, "page", "4"]):
         run(*words)
     with deaf_port() as port:
         run("send", str(port), desk_key, own, "page", "4")

@@ -5,15 +5,17 @@ import os
 import re
 import shutil
 import sqlite3
+import stat
 import tempfile
 from contextlib import closing, contextmanager
 
-from reference.outer_forms import WORDS, is_card_key, is_day, is_key, is_mask, is_name, is_number
+from reference.outer_forms import WORDS, is_card_key, is_day, is_key, is_mask, is_name, is_number, read_keys
 from room import TOP
 
 SAYINGS = {
     "fault reading": "the copies file is missing or can't be read",
     "fault network": "nobody listens on the port, no answer came, or the port is taken",
+    "fault keys": "the file of keys can't be read, or a line of it isn't NAME ROLE KEY",
     "fault threads": "a thread could not be created, so fewer connections were answered",
     "unsound claims ": "two or more claims are made on the copy with this number, which can only be in one place",
     "unsound binding ": "the hold with this number is not bound to its copy as its state requires",
@@ -38,6 +40,10 @@ SWAPPED = "this is a database, not a copies file: circ import LIBRARY COPIES"
 JOURNAL = "another program left a rollback journal beside the file: open it with sqlite3 first"
 UNWRITABLE = "no permission to write the file, its log or the folder: circ opens a library for writing even to read it; use a copy for that"
 READ_ONLY = "the file system is read-only: circ opens a library for writing even to read it; use a copy elsewhere for that"
+WRONG_KEYS = ("wanted is NAME ROLE KEY, parted by single spaces: a name of 1 to 16 ASCII letters and digits, desk or lending, and a key of 8 to 32; "
+              "no name and no key twice, at most 99 lines, and a newline at the end of each")
+NO_KEYS = "the file can't be read"
+OPEN_KEYS = "other users may read these keys: take that from them with chmod o-r"
 NOT_UNDERSTOOD = "words not understood\n"
 UNWRITTEN = b"circ: standard output can't be written\n"
 RUNS = ["file", "import", "report", "report", "report", "audit", "migrate", "serve", "send"]
@@ -87,9 +93,13 @@ def is_within(most):
     return lambda word: is_number(word) and 1 <= int(word) <= most
 
 
+def is_desk_keys(word):
+    return len(word) > 1 if word.startswith("@") else is_card_key(word)
+
+
 # The words of a run that have a form, by their places after the run's name: what each is called, its form, and what it has to be.
 KEY = ("KEY", is_key, "1 to 40 ASCII letters, digits and hyphens")
-DESKKEY = ("DESKKEY", is_card_key, WANTED[is_card_key])
+DESKKEY = ("DESKKEY", is_desk_keys, "8 to 32 ASCII letters and digits, or @ and the path of a file of keys")
 PORT = ("PORT", is_within(65_535), "a number from 1 to 65535, without a leading zero")
 ARGUMENTS = {
     "file": {1: KEY},
@@ -164,9 +174,29 @@ def is_log_alone(path):
     return os.path.isfile(f"{real}-wal") and os.path.getsize(f"{real}-wal") >= 512 and not (os.path.exists(real) and os.path.getsize(real))
 
 
+def keys_of(words):
+    """The file of keys that the words of a run name; None where they name none."""
+    place = {"serve": 5, "send": 2}.get(words[0]) if is_run(words) else None
+    return words[place][1:] if place and words[place].startswith("@") else None
+
+
+def of_keys(path):
+    """What is said of a file of keys as it is now, and whether it is good."""
+    try:
+        with open(path, "rb") as file:
+            wrong = read_keys(file.read())[1]
+    except OSError:
+        return f"circ: {path}: {NO_KEYS}\n", False
+    if wrong:
+        return f"circ: {path}: line {wrong}: {WRONG_KEYS}\n", False
+    return f"circ: {path}: {OPEN_KEYS}\n" if os.stat(path).st_mode & stat.S_IROTH else "", True
+
+
 def makes_library(words):
     """Whether a run that begins now makes a new library in its file."""
     if not is_run(words) or words[0] not in ("file", "import", "serve") or is_log_alone(words[1]):
+        return False
+    if keys_of(words) is not None and not of_keys(keys_of(words))[1]:
         return False
     try:
         return os.path.getsize(words[1]) == 0
@@ -242,7 +272,9 @@ def is_telling(line):
 def message(words, out, held=None, made=False, closed=None):
     """What is said beside the lines of a run of these words; `held` is whether another process had the library's file, `made` whether it makes a new one, and `closed`
     the number of the fault that closed the desk while it served."""
-    said = f"circ: {words[1]}: {MADE}\n" if made else ""
+    path = keys_of(words) if words else None
+    said = "" if path is None else of_keys(path)[0]
+    said += f"circ: {words[1]}: {MADE}\n" if made else ""
     if closed:
         said += f"circ: the desk is closed: {MEANINGS[closed]}\n{CLOSED}"
     line = ([it for it in out.split("\n")[:-1] if is_telling(it)] or [""])[-1]

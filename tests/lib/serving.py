@@ -13,6 +13,7 @@ import time
 from lib.checking import check, need
 from lib.messages import makes_library, message
 from lib.runs import GROUND, PROGRAM, say
+from reference.outer_forms import read_keys
 
 DESK_KEY = "deskkey00001"
 ANN, BO = {"Card-Key": "cardkey00001"}, {"Card-Key": "cardkey00002"}
@@ -53,13 +54,16 @@ def started(words_for, **how):
 class Serving:
     """The program serving a file for so many connections; at the end it has printed just these lines and has this status.
     Its workers serve as many each, so at the end the spare ones ask for nowhere: were they fewer or more, that would fail.
-    No answer tells the desk's key or a card key."""
+    No answer tells a key of the desk or a card key. Where there are clerks they are put in a file of keys beside the library, or they are those of the file that is named."""
 
-    def __init__(self, path, connections, after="", status=0, workers=1, **how):
+    def __init__(self, path, connections, after="", status=0, workers=1, clerks=None, **how):
         self.after, self.status, self.how, self.heard = after, status, how, []
+        file = clerks if clerks is None or isinstance(clerks, str) else put_keys(f"{path}.keys", clerks)
+        self.keys = [DESK_KEY] if file is None else keys_in(file)
+        desk_key = DESK_KEY if file is None else f"@{file}"
         each = -(-connections // workers)
         self.spare = each * workers - connections
-        self.words_for = lambda port: ["serve", path, str(port), str(workers), str(each), DESK_KEY]
+        self.words_for = lambda port: ["serve", path, str(port), str(workers), str(each), desk_key]
 
     def __enter__(self):
         self.made = makes_library(self.words_for(1))
@@ -81,7 +85,7 @@ class Serving:
                 fault = re.search(r"^fault (\d+)$", self.after, re.M)
                 said = message(self.words, self.after, made=self.made, closed=int(fault[1]) if fault else None)
                 check("what it printed", (out.decode(), err, self.run.returncode), (self.after, said, self.status))
-                check("keys in answers", [key for key in (DESK_KEY, "cardkey", "newkey") if key.encode() in b"\n".join(self.heard)], [])
+                check("keys in answers", [key for key in (*self.keys, "cardkey", "newkey") if key.encode() in b"\n".join(self.heard)], [])
         finally:
             self.end()
 
@@ -112,9 +116,9 @@ class Serving:
         check(f"its fields {target}", {name: found[2].get(name) for name in wanted}, wanted)
         return found[2]
 
-    def desk(self, key, words):
-        """What the desk is answered, by http.client."""
-        fields = {"Desk-Key": DESK_KEY, "Request-Key": key}
+    def desk(self, key, words, shown=None):
+        """What the desk is answered, by http.client; with the first of its keys where none is shown."""
+        fields = {"Desk-Key": shown or self.keys[0], "Request-Key": key}
         return self.ask("POST", "/desk", fields, json.dumps(words))[:2]
 
     def curl(self, target, *options):
@@ -136,6 +140,20 @@ class Serving:
             peer.shutdown(socket.SHUT_WR)
             self.heard.append(everything(peer))
             return self.heard[-1]
+
+
+def put_keys(path, clerks, mode=0o600):
+    """Writes a file of keys, of bytes or of clerks, and gives its path."""
+    with open(path, "wb") as file:
+        file.write(clerks if isinstance(clerks, bytes) else "".join(f"{name} {role} {key}\n" for name, role, key in clerks).encode())
+    os.chmod(path, mode)
+    return path
+
+
+def keys_in(path):
+    """The keys of a file of keys."""
+    with open(path, "rb") as file:
+        return [key for _, _, key in read_keys(file.read())[0]]
 
 
 def everything(peer):

@@ -1,4 +1,4 @@
-"""The outer forms of docs/RULES.md once more, in plain Python: words, JSON bodies, web requests and copies files, read from their bytes.
+"""The outer forms of docs/RULES.md once more, in plain Python: words, JSON bodies, web requests, files of keys and copies files, read from their bytes.
 
 It was written from the rules and shares nothing with the program, so that the two can be compared. What an accepted request does is told
 by `desk_rules`.
@@ -368,16 +368,19 @@ def read_request(bytes_):
     return None if route == "desk" else int(numbers[0]), shown, key, words_of(route, numbers, body)
 
 
+# What a clerk of the role `lending` may send.
+LENDING = ("check-out", "check-in", "renew", "page", "copy", "borrower", "today")
+
 PHRASES = {200: "OK", 400: "Bad Request", 403: "Forbidden", 404: "Not Found", 405: "Method Not Allowed", 409: "Conflict", 413: "Payload Too Large"}
 
 
-def told(library, desk_key, bytes_):
+def told(library, clerks, bytes_):
     """The status, the body and the allowed method of the answer to a request. It is handled, where it is to be."""
     try:
         patron, shown, key, words = read_request(bytes_)
     except Failed as failed:
         return failed.status, {"status": failed.status}, failed.allowed
-    line = said(library, desk_key, patron, shown, key, words)
+    line = said(library, clerks, patron, shown, key, words)
     if line == "refused 81":
         return 403, {"refusal": 81}, ""
     if line.startswith("refused "):
@@ -385,10 +388,10 @@ def told(library, desk_key, bytes_):
     return 200, {"reply": line}, ""
 
 
-def said(library, desk_key, patron, shown, key, words):
+def said(library, clerks, patron, shown, key, words):
     """The line that answers a request: first the caller's key is looked at and whether the caller may send it, then the request's own key, and then whose loan or hold it is."""
     if patron is None:
-        return library.handle(key, words) if shown == desk_key else "refused 81"
+        return said_to_clerk(library, clerks, shown, key, words)
     if patron not in library.patrons or library.patrons[patron]["card_key"] != shown:
         return "refused 81"
     if words[0] not in PATRONS_COMMANDS or (words[0] in NAMES_A_PATRON and int(words[1]) != patron):
@@ -400,13 +403,46 @@ def said(library, desk_key, patron, shown, key, words):
     return library.handle(key, words, patron)
 
 
-def answer_to(library, desk_key, bytes_):
+def said_to_clerk(library, clerks, shown, key, words):
+    """The line that answers a request of the desk. The clerks are those of a file of keys, each a name, a role and a key, and a request is kept under the name and its own key; or they are one key of
+    nobody's, which may send everything, and nothing is put before the request's own key."""
+    if isinstance(clerks, str):
+        return library.handle(key, words) if shown == clerks else "refused 81"
+    for name, role, own in clerks:
+        if own == shown:
+            return library.handle(f"{name}/{key}", words) if role == "desk" or words[0] in LENDING else "refused 81"
+    return "refused 81"
+
+
+def answer_to(library, clerks, bytes_):
     """The status of the answer to a request, and its bytes."""
-    status, value, allowed = told(library, desk_key, bytes_)
+    status, value, allowed = told(library, clerks, bytes_)
     body = json.dumps(value, ensure_ascii=False, separators=(",", ":")).encode()
     lines = [f"HTTP/1.1 {status} {PHRASES[status]}", *[f"Allow: {allowed}"] * bool(allowed), "Content-Type: application/json",
              f"Content-Length: {len(body)}", "Connection: close", "", ""]
     return status, "\r\n".join(lines).encode() + body
+
+
+# ---- files of keys
+
+MOST_CLERKS = 99
+CLERK = re.compile(b"([A-Za-z0-9]{1,16}) (desk|lending) ([A-Za-z0-9]{8,32})")
+
+
+def read_keys(bytes_):
+    """The clerks of a file of keys, each a name, a role and a key; and the number of its first line that isn't as it has to be, None where all are. A last line without a newline isn't, and an empty file
+    has such a line alone."""
+    clerks = []
+    *lines, rest = bytes_.split(b"\n")
+    for number, line in enumerate(lines, 1):
+        found = CLERK.fullmatch(line)
+        if number > MOST_CLERKS or not found:
+            return clerks, number
+        name, role, key = (it.decode() for it in found.groups())
+        if any(name == other or key == another for other, _, another in clerks):
+            return clerks, number
+        clerks.append((name, role, key))
+    return clerks, len(lines) + 1 if rest or not lines else None
 
 
 # ---- copies files
