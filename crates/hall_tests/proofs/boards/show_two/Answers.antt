@@ -1,6 +1,6 @@
 use Rattle.std.proofs.Common.{◌≡◌, ap, ◌∙◌, arith}
 use Rattle.board.specs.Showing.{count_own}
-use Rattle.board_tests.proofs.boards.show_two.Goals as goal
+use Rattle.hall_tests.proofs.boards.show_two.Goals as goal
 
 -- The first entry of worker 2 has the number 1.
 pub show-requires : goal.show-requires

@@ -2,7 +2,7 @@
 //! behind the calls' back. All other calls are the program's, and are tested with it. The owner of
 //! the connection has few exits, since each would drop it: functions that borrow it do the work.
 
-use crate::calls::*;
+use crate::table_calls::*;
 use calendar::Day;
 use sqlite::{Alter, Connection, Error, MemStore, Transaction};
 use std::alloc::Global;

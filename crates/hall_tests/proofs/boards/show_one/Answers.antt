@@ -3,7 +3,7 @@ use Rattle.std.proofs.lemmas.List.Sums.{sum_by-cons}
 use Rattle.board.specs.declared.entry.Entry.{Entry}
 use Rattle.board.specs.Showing.{count_own}
 use Rattle.board.specs.Rule.{Publishing}
-use Rattle.board_tests.proofs.boards.show_one.Goals as goal
+use Rattle.hall_tests.proofs.boards.show_one.Goals as goal
 
 -- Worker 2 has no entry where there is one of worker 1 alone.
 none_of_two : (shown : List Entry) (e : Entry) → shown ≡ [] → e.worker ≡ 1 → count_own 2 (shown ++ e ∷ []) ≡ 0
