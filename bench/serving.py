@@ -95,12 +95,12 @@ def posted(run):
 
 
 class Serving:
-    """The program serving a library: with so many workers, each of which answers so many connections, and under another program where one is named."""
+    """The program serving a library: with so many workers, each of which answers so many connections, under another program where one is named, and with a file of keys where that is."""
 
-    def __init__(self, path, workers, each=1_000_000, before=()):
+    def __init__(self, path, workers, each=1_000_000, before=(), key=KEY):
         self.port = free_port()
         self.path, self.url = path, f"http://127.0.0.1:{self.port}"
-        words = [*before, PROGRAM, "serve", path, str(self.port), str(workers), str(each), KEY]
+        words = [*before, PROGRAM, "serve", path, str(self.port), str(workers), str(each), key]
         # a session of its own, so that at the end both programs are killed
         self.run = subprocess.Popen(words, stdout=subprocess.PIPE, start_new_session=True)
         if not self.run.stdout.readline().startswith(b"listening on"):
