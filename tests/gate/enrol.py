@@ -25,7 +25,9 @@ from lib.serving import DESK_KEY, a_library, everything, started
 ENROL = os.path.join(TOP, "tools", "enrol")
 HEADER = "patron,kind,card-key,name\n"
 WRONG_KEY = "deskkey00002"
-MANY, SOME = 10_000, 4_000
+CLERKS_KEYS = ["annkey000001", "bokey0000001", "kioskkey0001"]
+ANN, BO, KIOSK = (f"{name} {role} {key}\n" for (name, role), key in zip((("ann", "desk"), ("bo", "desk"), ("kiosk", "lending")), CLERKS_KEYS))
+MANY, SOME = 10_000, 6_000
 
 # A list, as a spreadsheet may write it, and the patrons that it has.
 TOWN = HEADER + """\
@@ -43,9 +45,9 @@ def patrons(path):
 
 
 @contextmanager
-def a_desk(path):
+def a_desk(path, key=DESK_KEY):
     """A program that serves a library, and is killed at the end: it has answered no one knows how many."""
-    run, port, first = started(lambda port: ["serve", path, str(port), "2", "1000000", DESK_KEY])
+    run, port, first = started(lambda port: ["serve", path, str(port), "2", "1000000", key])
     try:
         check("the desk serves", first, f"listening on {port}\n")
         yield run, str(port)
@@ -94,7 +96,7 @@ def enrolled(*words):
     """What a run prints, what it says on standard error, and its status. No card key and no key of a desk is told, whatever goes wrong."""
     with begun(*words) as run:
         out, err = (it.decode() for it in run.communicate(timeout=900))
-    check("keys that are told", [it for it in ("cardkey", DESK_KEY, WRONG_KEY) if it in out + err], [])
+    check("keys that are told", [it for it in ("cardkey", DESK_KEY, WRONG_KEY, *CLERKS_KEYS) if it in out + err], [])
     return out, err, run.returncode
 
 
@@ -244,13 +246,44 @@ def bad_lists(folder):
         for none in ("0", "65536", "x", "-1"):
             check(f"the port {none}", enrolled(none, DESK_KEY, listed, refused), ("", said("the port is no number from 1 to 65535"), 4))
         for words in ((), (port, DESK_KEY, listed), (port, DESK_KEY, listed, ""), (port, DESK_KEY, listed, refused, refused)):
-            check(f"the words {words}", enrolled(*words), ("", "usage: enrol PORT DESKKEY LIST REFUSED\n", 4))
+            check(f"the words {words}", enrolled(*words), ("", "usage: enrol PORT DESKKEY|@KEYFILE LIST REFUSED\n", 4))
         check("no patron is there", patrons(path), [])
         # the same rows without their faults are good: the longest name and keys, and the first and last numbers
         longest = [(4, 1, "c" * 8, "\u00f3" * 60), (9_999_999, 1, "C" * 32, "x")]
         listed = put(folder, "good.csv", HEADER + "".join(",".join(map(str, row)) + "\n" for row in longest))
         check("rows at the limits", enrolled(port, DESK_KEY, listed, refused), ("accepted 2 refused 0\n", "", 0))
         check("they are there", patrons(path), longest)
+    check("no file of refused rows", os.path.exists(refused), False)
+
+
+NO_FILE = "No such file or directory"
+BAD_KEYS = ["", "\n", ANN[:-1], ANN.replace(" ", "  "), ANN.replace("desk", "clerk"), ANN + ANN.replace("ann", "bo", 1), ANN + ANN.replace("annkey", "bokey0"), ANN.replace("\n", "\r\n"), ANN + "\n", f"# clerks\n{ANN}", ANN + "bo desk bokey\n",
+            "".join(f"clerk{at} desk clerkkey{at:04}\n" for at in range(100)), ANN + "x" * 9_000_000, DESK_KEY]
+
+
+def by_clerks(folder):
+    """A list is enrolled with the first key of a file of keys, and the rows are that clerk's; a lending clerk, and a clerk whom the desk doesn't know, enrol nobody."""
+    path, listed, refused = a_library(folder, "clerks.db"), put(folder, "clerks.csv", TOWN), os.path.join(folder, "of_clerks.csv")
+    keys = lambda text: f"@{put(folder, 'clerks.keys', text)}"
+    wrong = ("accepted 0 refused 0\n", said("refused 81: wrong key, or not allowed to this caller"), 2)
+    with a_desk(path, f"@{put(folder, 'desk.keys', ANN + BO + KIOSK)}") as (_, port):
+        for text in BAD_KEYS:
+            word = keys(text)
+            check(f"the bad file of keys {text[:60]!r}", enrolled(port, word, listed, refused), ("", said(f"{word[1:]} is no file of keys: circ send says which line is wrong"), 3))
+        for absent, why in ((os.path.join(folder, "absent.keys"), NO_FILE), (folder, "Is a directory")):
+            check(f"no file of keys: {why}", enrolled(port, f"@{absent}", listed, refused), ("", said(f"{absent} can't be read: {why}"), 3))
+        check("no name of a file", enrolled(port, "@", listed, refused), ("", said("the desk's key is not 8 to 32 ASCII letters and digits"), 4))
+        check("a lending clerk", enrolled(port, keys(KIOSK + ANN), listed, refused), wrong)
+        check("a clerk whom the desk doesn't know", enrolled(port, keys("cy desk cykey0000001\n" + ANN), listed, refused), wrong)
+        check("a key alone that is no clerk's", enrolled(port, DESK_KEY, listed, refused), wrong)
+        check("no patron is there", patrons(path), [])
+        for text in (BO + ANN, "bo desk bokey0000001\n"):
+            check("the first clerk's key", enrolled(port, keys(text), listed, refused), ("accepted 3 refused 0\n", "", 0))
+        many = "".join(f"clerk{at} desk clerkkey{at:04}\n" for at in range(98))
+        check("a file of 99 clerks", enrolled(port, keys(ANN + many), listed, refused), ("accepted 3 refused 0\n", "", 0))
+        check("a clerk's key alone", enrolled(port, CLERKS_KEYS[0], listed, refused), ("accepted 3 refused 0\n", "", 0))
+    check("the patrons", patrons(path), PATRONS)
+    check("whose hands", rows_now(path, "SELECT key FROM kept WHERE key LIKE '%patron-%' ORDER BY rowid"), [(f"{name}/patron-{at}",) for name in ("bo", "ann") for at in (50, 51, 52)])
     check("no file of refused rows", os.path.exists(refused), False)
 
 
@@ -289,6 +322,8 @@ def others_that_answer(folder):
     # beside the manual page, as in the repository, numbers have their meanings; by itself the tool tells the number alone
     alone = put(folder, "enrol", open(ENROL, "rb").read())
     os.chmod(alone, 0o755)
+    for name in ("circ_client.py", "circ_tool.py"):
+        put(folder, name, open(os.path.join(TOP, "tools", name), "rb").read())
     with one_who_answers(http_answer(409, '{"refusal":17}')) as port:
         told = "row 1 refused 17: unknown kind of patron (patron-50)\naccepted 0 refused 1\n"
         check("a refusal with its meaning", enrolled(port, DESK_KEY, listed, refused), (told, "", 2))
@@ -389,6 +424,7 @@ def main():
             part(good_lists, folder)
             part(refused_rows, folder)
             part(bad_lists, folder)
+            part(by_clerks, folder)
             part(others_that_answer, folder)
             part(killed_in_the_middle, folder)
             part(other_stops, folder)
