@@ -23,30 +23,37 @@ from room import TOP
 from lib.checking import check, part, run_script
 from lib.fake_desk import FakeDesk, refusal
 from lib.program import program as found
+from reference.outer_forms import read_keys
 
-UNITS = ["circ-backup.service", "circ-backup.timer", "circ-day.service", "circ-day.timer", "circ-watch.service", "circ-watch.timer", "circ.service"]
+UNITS = ["circ-backup.service", "circ-backup.timer", "circ-day.service", "circ-day.timer", "circ-sip2.service", "circ-tell@.service", "circ-watch.service", "circ-watch.timer", "circ.service"]
 EXAMPLES = ["Caddyfile", "nginx.conf"]
 # each file of the package, and the one of the repository that it is made of
 PLAIN = {
     "usr/share/bash-completion/completions/circ": "docs/circ.bash",
     "usr/share/doc/circ/copyright": "tools/deb/copyright",
+    "usr/share/circ/circ_client.py": "tools/circ_client.py",
+    "usr/share/circ/circ_tool.py": "tools/circ_tool.py",
+    "usr/share/doc/circ/openapi.yaml": "docs/openapi.yaml",
+    "usr/share/doc/circ/replies.json": "docs/replies.json",
     "usr/share/lintian/overrides/circ": "tools/deb/lintian-overrides",
     **{f"usr/share/circ/pages/{name}": f"pages/{name}" for name in sorted(os.listdir(os.path.join(TOP, "pages")))},
 }
 PACKED = {"usr/share/man/man1/circ.1.gz": "docs/circ.1", "usr/share/doc/circ/changelog.gz": "CHANGES.md"}
+DOCUMENTS = {f"usr/share/doc/circ/{name}.md": f"docs/{name}.md" for name in ("OPERATIONS", "USING", "RULES")}
 PLACED = {
     **{f"usr/lib/systemd/system/{name}": f"docs/operations/{name}" for name in UNITS},
     **{f"usr/share/doc/circ/examples/{name}": f"docs/operations/{name}" for name in EXAMPLES},
 }
-TOOLS = {"usr/bin/circ-enrol": "tools/enrol", "usr/bin/circ-backup": "tools/backup"}
-MODES = {**dict.fromkeys([*PLAIN, *PACKED, *PLACED], 0o644), **dict.fromkeys(["usr/bin/circ", *TOOLS], 0o755)}
+TOOLS = {f"usr/bin/circ-{name}": f"tools/{name}" for name in ("backup", "copies", "create", "day", "enrol", "export", "forget", "restore", "sip2", "tell", "watch")}
+PAGES = {f"usr/share/man/man1/{os.path.basename(path)}.1.gz": path for path in TOOLS}
+MODES = {**dict.fromkeys([*PLAIN, *PACKED, *PLACED, *DOCUMENTS, *PAGES], 0o644), **dict.fromkeys(["usr/bin/circ", *TOOLS], 0o755)}
 SCRIPTS = ["postinst", "postrm", "prerm"]
 DESCRIPTION = "circulation desk of a town library with branches"
 USAGE = "usage: ./package [FOLDER]\n"
 ANOTHER_DATE = 1_600_000_000
 # what stands in for the system's commands, and notes how it was called
 STUB = '#!/bin/sh\necho "$(basename "$0") $*" >>"$NOTES"\n'
-STUBS = {"adduser": "", "deb-systemd-helper": "exit 1", "deb-systemd-invoke": "", "find": "", "getent": "exit 2", "id": "echo 100", "install": 'for it; do :; done; mkdir -p "$it"', "stat": "echo circ", "systemctl": "", "userdel": ""}
+STUBS = {"adduser": "", "chgrp": "", "deb-systemd-helper": "exit 1", "deb-systemd-invoke": "", "find": "", "getent": "exit 2", "id": "echo 100", "install": 'for it; do :; done; mkdir -p "$it"', "stat": 'case $2 in "%U") echo circ ;; *) echo "root:circ 750" ;; esac', "systemctl": "", "userdel": ""}
 
 
 def run(*words, **more):
@@ -151,20 +158,26 @@ def as_in_the_repository(place, package, program):
         check(path, body, own.replace("/usr/local/bin/", "/usr/bin/").replace("/usr/local/share/", "/usr/share/"))
         check(f"places in {path}", "/usr/local" in body, False)
         named += re.findall(r"/usr/(?:bin|share)/circ[\w-]*", body)
-    check("what the units and examples name", sorted(set(named)), ["/usr/bin/circ", "/usr/bin/circ-backup", "/usr/share/circ"])
+    check("what the units and examples name", sorted(set(named)), ["/usr/bin/circ", "/usr/bin/circ-backup", "/usr/bin/circ-create", "/usr/bin/circ-day", "/usr/bin/circ-sip2", "/usr/bin/circ-tell", "/usr/bin/circ-watch", "/usr/share/circ"])
     check("what of that isn't there", [it for it in named if not os.path.exists(f"{root}{it}")], [])
     for path, source in TOOLS.items():
         check(path, read(f"{root}/{path}").decode(), text_of(source).replace("#!/usr/bin/env python3", "#!/usr/bin/python3", 1))
+    for path, source in DOCUMENTS.items():
+        check(path, read(f"{root}/{path}").decode(), text_of(source).replace("/usr/local/", "/usr/"))
+    for path, program_path in PAGES.items():
+        told, page = run(f"{root}/{program_path}", "--help").stdout.split(), gzip.decompress(read(f"{root}/{path}")).decode()
+        check(f"the words of {path} that --help tells", [it for it in told if it != "usage:" and it not in page.split()], [])
     copyright_lines = text_of("tools/deb/copyright").splitlines()
     check("the licence is told in one line", (len(copyright_lines), "No licence of it is granted yet" in copyright_lines[0]), (1, True))
     # a refused row is told with its meaning, which is in the packed manual page
     desk = FakeDesk(os.path.join(TOP, "pages"))
     desk.says(lambda what: refusal(17))
     write(f"{place}/patrons.csv", "patron,kind,card-key,name\n1,1,cardkey00001,Ann Bell\n")
-    told = run(sys.executable, f"{root}/usr/bin/circ-enrol", desk.url.rpartition(":")[2], "deskkey00001", f"{place}/patrons.csv", f"{place}/refused.csv")
+    write(f"{place}/desk.keys", "keeper desk deskkey00001\n", 0o600)
+    told = run(sys.executable, f"{root}/usr/bin/circ-enrol", desk.url.rpartition(":")[2], f"@{place}/desk.keys", f"{place}/patrons.csv", f"{place}/refused.csv")
     check("a list of patrons by the unpacked tool", (told.returncode, told.stdout, told.stderr), (2, "row 1 refused 17: unknown kind of patron (patron-1)\naccepted 0 refused 1\n", ""))
     told = run(sys.executable, f"{root}/usr/bin/circ-backup")
-    check("how the unpacked backup is written", (told.returncode, told.stderr), (4, "usage: circ-backup [--service NAME | --no-service] [--no-audit] LIBRARY FOLDER KEEP\n"))
+    check("how the unpacked backup is written", (told.returncode, told.stderr), (4, "usage: circ-backup [--service NAME | --no-service] [--no-audit] [--fewer] LIBRARY FOLDER KEEP\n"))
 
 
 class Machine:
@@ -179,7 +192,7 @@ class Machine:
             os.makedirs(f"{self.root}/run/systemd/system")
         for stub, does in STUBS.items():
             self.command(stub, does)
-        self.key, self.library = f"{self.root}/etc/circ/desk.key", f"{self.root}/var/lib/circ"
+        self.keys, self.older, self.library = (f"{self.root}/{it}" for it in ("etc/circ/desk.keys", "etc/circ/desk.key", "var/lib/circ"))
 
     def command(self, name, does):
         write(f"{self.stubs}/{name}", f"{STUB}{does}\n", 0o755)
@@ -191,6 +204,27 @@ class Machine:
         write(notes, "")
         told = run("sh", path, *words, env={**os.environ, "PATH": f"{self.stubs}:{os.environ['PATH']}", "NOTES": notes})
         return (told.returncode, told.stdout, told.stderr), read(notes).decode().replace(self.root, "").splitlines()
+
+
+def older_keys(place):
+    """The one key of an older version goes on as the first of the file of keys, and its folder may be entered by the group; a file in which there is none gets a new key, and a link that leads nowhere stays."""
+    moved = "circ: {0}/etc/circ/desk.keys has the key of {0}/etc/circ/desk.key now, as that of keeper\n"
+    for at, (older, wanted) in enumerate((("DESKKEY=chosenbytown1\n", "chosenbytown1"), ('# of the town\nDESKKEY="chosenbytown2"\n', "chosenbytown2"), ("DESKKEY='chosenbytown3' \n", "chosenbytown3"), ("DESKKEY=short\n", None),
+                                          (f"DESKKEY={'k' * 33}\n", None), ("DESKKEY=a key of a town\n", None), ("\n", None))):
+        machine = Machine(place, f"older{at}")
+        os.makedirs(os.path.dirname(machine.older), 0o700)
+        write(machine.older, older, 0o600)
+        machine.command("stat", "echo root:root 700")
+        told, calls = machine.runs("postinst", "configure", "0.13.0")
+        check(f"an older version's {older!r}", told, (0, moved.format(machine.root) if wanted else "", ""))
+        check("its folder", ([it for it in calls if it.startswith("chgrp")], oct(os.stat(os.path.dirname(machine.keys)).st_mode & 0o7777)), (["chgrp circ /etc/circ", "chgrp circ /etc/circ/desk.keys.new"], oct(0o750)))
+        found = read(machine.keys).decode()
+        check("the file of keys", bool(re.fullmatch(f"keeper desk {wanted or '[A-Za-z0-9]{32}'}\n", found)) and read_keys(found.encode())[1] is None, True)
+        check("the older file stays", read(machine.older).decode(), older)
+    machine = Machine(place, "linked")
+    os.makedirs(os.path.dirname(machine.keys))
+    os.symlink("/mnt/desk.keys", machine.keys)
+    check("a link that leads nowhere", (machine.runs("postinst", "configure", "0.1")[0], os.readlink(machine.keys)), ((0, "", ""), "/mnt/desk.keys"))
 
 
 def scripts(place):
@@ -211,21 +245,22 @@ def scripts(place):
     machine = Machine(place, "machine")
     told, calls = machine.runs("postinst", "configure", "")
     check("the first installation", told, quiet)
-    check("what it calls", without_helper(calls), ["getent passwd circ", "adduser --system --group --quiet --home /var/lib/circ --no-create-home circ", "install -d -m 700 -o circ -g circ /var/lib/circ", "install -d -m 700 /etc/circ", reload])
+    check("what it calls", without_helper(calls), ["getent passwd circ", "adduser --system --group --quiet --home /var/lib/circ --no-create-home circ", "install -d -m 700 -o circ -g circ /var/lib/circ", "install -d -m 750 -o root -g circ /etc/circ", "chgrp circ /etc/circ/desk.keys.new", reload])
     check("no unit is enabled", helper(calls), [f"{verb} {unit}" for unit in units for verb in ("debian-installed", "update-state")])
-    key = read(machine.key)
-    check("a key of a legal form", bool(re.fullmatch(b"DESKKEY=[A-Za-z0-9]{32}\n", key)), True)
-    check("its mode, and what is beside it", (oct(os.stat(machine.key).st_mode & 0o7777), os.listdir(os.path.dirname(machine.key))), (oct(0o600), ["desk.key"]))
+    key = read(machine.keys)
+    check("a key of a legal form", bool(re.fullmatch(b"keeper desk [A-Za-z0-9]{32}\n", key)), True)
+    check("a file of keys by the rules", read_keys(key)[1], None)
+    check("its mode, and what is beside it", (oct(os.stat(machine.keys).st_mode & 0o7777), os.listdir(os.path.dirname(machine.keys))), (oct(0o640), ["desk.keys"]))
     machine.command("getent", "")
     machine.command("deb-systemd-helper", "")
     told, calls = machine.runs("postinst", "configure", "0.1")
-    check("an upgrade", (told, without_helper(calls)), (quiet, ["getent passwd circ", "id -u circ", "stat -c %U /var/lib/circ", reload, again]))
+    check("an upgrade", (told, without_helper(calls)), (quiet, ["getent passwd circ", "id -u circ", "stat -c %U /var/lib/circ", "stat -c %U:%G %a /etc/circ", reload, again]))
     verbs = ("debian-installed", "--quiet was-enabled", "enable", "update-state")
     check("the units that were enabled are so again", helper(calls), [f"{verb} {unit}" for unit in units for verb in verbs])
-    check("the key after it", read(machine.key), key)
-    write(machine.key, "DESKKEY=chosenbytown1\n")
-    check("an upgrade with another key", machine.runs("postinst", "configure", "0.1")[0], quiet)
-    check("that key after it", read(machine.key), b"DESKKEY=chosenbytown1\n")
+    check("the keys after it", read(machine.keys), key)
+    write(machine.keys, "ann desk chosenbytown1\n")
+    check("an upgrade with other keys", machine.runs("postinst", "configure", "0.1")[0], quiet)
+    check("those keys after it", read(machine.keys), b"ann desk chosenbytown1\n")
     machine.command("stat", "echo root")
     _, calls = machine.runs("postinst", "configure", "")
     check("a library that a purge left", [it for it in calls if it.startswith("find ")], ["find /var/lib/circ -user root -exec chown -h circ:circ {} +"])
@@ -235,7 +270,8 @@ def scripts(place):
     other = Machine(place, "other", has_systemd=False)
     told, calls = other.runs("postinst", "configure", "")
     check("without systemd", (told, [it for it in calls if it.startswith(("systemctl ", "deb-systemd-invoke "))]), (quiet, []))
-    check("another machine has another key", read(other.key) != key, True)
+    check("another machine has another key", read(other.keys) != key, True)
+    older_keys(place)
     for script, word in (("prerm", "remove"), ("postrm", "remove")):
         check(f"{script} without systemd", other.runs(script, word), (quiet, []))
 
@@ -243,12 +279,13 @@ def scripts(place):
     check("before a removal", machine.runs("prerm", "remove"), (quiet, stops))
     check("before an upgrade", machine.runs("prerm", "upgrade", "9.9"), (quiet, []))
     check("after a removal", machine.runs("postrm", "remove"), (quiet, [reload]))
-    check("what a removal leaves", (os.path.isfile(machine.key), os.path.isdir(machine.library)), (True, True))
+    check("what a removal leaves", (os.path.isfile(machine.keys), os.path.isdir(machine.library)), (True, True))
+    write(machine.older, "DESKKEY=chosenbytown1\n")
 
     write(f"{machine.library}/town.db", "a library")
     stays, links = f"circ: {machine.library} stays, with the library\n", f"deb-systemd-helper purge {' '.join(units)}"
     check("a purge, with a person of that name", machine.runs("postrm", "purge"), ((0, stays, ""), [links, "id -u circ"]))
-    check("the key is gone, with its folder", os.path.exists(os.path.dirname(machine.key)), False)
+    check("the keys are gone, with their folder", os.path.exists(os.path.dirname(machine.keys)), False)
     machine.command("id", "echo 100")
     check("a purge with a library", machine.runs("postrm", "purge"), ((0, stays, ""), [links, "id -u circ", "find /var/lib/circ -user circ -exec chown -h root:root {} +", "userdel circ"]))
     check("the library stays", read(f"{machine.library}/town.db"), b"a library")
