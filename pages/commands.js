@@ -44,10 +44,20 @@ export const COMMANDS = {
   "borrower": ["patron"],
   "find-patrons": ["after", "text"],
   "find-titles": ["after", "text"],
+  "branches": ["after"],
+  "closed-days": ["branch", "after"],
+  "kinds": ["after"],
+  "rules": ["kind", "after"],
+  "missing-copies": ["after"],
+  "loans": ["copy", "after"],
 };
 
 // The commands that only ask.
-export const QUESTIONS = ["page", "copy", "copies", "queue", "account", "debts", "overdue", "shelf", "pulls", "transits", "till", "today", "borrower", "find-patrons", "find-titles"];
+export const QUESTIONS = ["page", "copy", "copies", "queue", "account", "debts", "overdue", "shelf", "pulls", "transits", "till", "today", "borrower", "find-patrons", "find-titles",
+  "branches", "closed-days", "kinds", "rules", "missing-copies", "loans"];
+
+// Whether words only ask, and change nothing.
+export const onlyAsk = (words) => QUESTIONS.includes(words[0]);
 
 // The words of a line: parted by blanks, and what stands in quotes of one kind is one word. Null where a quote isn't closed.
 export function wordsOf(line) {

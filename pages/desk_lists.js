@@ -66,7 +66,7 @@ async function ask(desk, question, about, after, before) {
 
 // What is looked up is a number, with its prefix or without.
 function lookUp(desk, question) {
-  const kind = { copy: "copy", copies: "title", queue: "title", account: "patron" }[question];
+  const kind = { copy: "copy", loans: "copy", copies: "title", queue: "title", account: "patron" }[question];
   const text = it("looked").value.trim();
   const { of, number } = cut(text);
   if (of !== null && of !== kind) return tell(say(TEXTS.otherScanned, { is: nameOf(of), wanted: nameOf(kind) }), true);
@@ -81,8 +81,15 @@ function find(desk, question) {
   return ask(desk, question, text, 0, []);
 }
 
+// The rules of a kind of patrons, whose number is typed.
+function showRules(desk) {
+  const kind = it("ruled").value.trim();
+  if (!isNumber(kind)) return tell(say(TEXTS.wrongForm, { what: TEXTS.numberForm }), true);
+  return ask(desk, "rules", kind, 0, []);
+}
+
 function listenToButtons(desk) {
-  for (const button of it("list-buttons").querySelectorAll("button")) {
+  for (const button of [...it("list-buttons").querySelectorAll("button"), ...it("setting-buttons").querySelectorAll("button")]) {
     button.addEventListener("click", () => ask(desk(), button.value, desk().branch, 0, []));
   }
   it("more").addEventListener("click", () => ask(desk(), shown.question, shown.about, shown.list.after, shown.list.rows));
@@ -109,6 +116,11 @@ export function listenForLists(desk) {
   it("looking").addEventListener("submit", (event) => {
     event.preventDefault();
     lookUp(desk(), event.submitter?.value ?? "copy");
+    focusScan();
+  });
+  it("ruling").addEventListener("submit", (event) => {
+    event.preventDefault();
+    showRules(desk());
     focusScan();
   });
   it("finding").addEventListener("submit", (event) => {

@@ -65,6 +65,32 @@ const LISTS = {
   debts: { head: null, rows: DEBTOR },
   "find-patrons": { head: null, rows: DEBTOR },
   "find-titles": { head: null, rows: TITLE },
+  branches: {
+    head: null,
+    rows: [[`branch ${NUMBER} pickup ${NUMBER} week ([oc]{7}) name ${TEXT}`, ([branch, pickup, week, name]) => ({ branch: Number(branch), pickup: Number(pickup), week, name })]],
+  },
+  "closed-days": { head: null, rows: [[`day ${DAY}`, ([day]) => ({ day })]] },
+  kinds: {
+    head: null,
+    rows: [[`kind ${NUMBER} loans ${NUMBER} holds ${NUMBER} debt ${NUMBER}`, ([kind, loans, holds, debt]) => ({ kind: Number(kind), loans: Number(loans), holds: Number(holds), debt: Number(debt) })]],
+  },
+  rules: {
+    head: null,
+    rows: [[`rule ${NUMBER} ${NUMBER} period ${NUMBER} renewals ${NUMBER} rate ${NUMBER} cap ${NUMBER} grace ${NUMBER}`,
+      ([kind, copyKind, period, renewals, rate, cap, grace]) => (
+        { kind: Number(kind), copyKind: Number(copyKind), period: Number(period), renewals: Number(renewals), rate: Number(rate), cap: Number(cap), grace: Number(grace) })]],
+  },
+  "missing-copies": {
+    head: null,
+    rows: [[`copy ${NUMBER} home ${NUMBER} title ${NUMBER} ${TEXT}`, ([copy, home, title, text]) => ({ copy: Number(copy), home: Number(home), title: Number(title), text })]],
+  },
+  loans: {
+    head: null,
+    rows: [
+      [`loan ${NUMBER} patron ${NUMBER} made ${DAY} due ${DAY}`, ([loan, patron, made, due]) => ({ loan: Number(loan), patron: Number(patron), made, due, ended: null })],
+      [`loan ${NUMBER} patron ${NUMBER} made ${DAY} due ${DAY} ended ${DAY}`, ([loan, patron, made, due, ended]) => ({ loan: Number(loan), patron: Number(patron), made, due, ended })],
+    ],
+  },
   overdue: {
     head: columns("loan", "patron", "copy", "due", "late"),
     rows: [[`${BLANKS}${NUMBER} +${NUMBER} +${NUMBER} ${DAY} +${NUMBER} ${TEXT}`,

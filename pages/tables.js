@@ -7,6 +7,8 @@ const whole = (name) => (row) => String(row[name]);
 const orNone = (name) => (row) => (row[name] === null ? "" : String(row[name]));
 const money = (name) => (row) => amount(row[name]);
 const where = ({ place }) => whereIs(place);
+const weekdays = TEXTS.weekdays.split(" ");
+const closed = ({ week }) => weekdays.filter((_, at) => week[at] === "c").join(", ");
 const sorts = {
   fine: TEXTS.sortFine, price: TEXTS.sortPrice, payment: TEXTS.sortPayment, waiver: TEXTS.sortWaiver,
   fines: TEXTS.sumFines, prices: TEXTS.sumPrices, payments: TEXTS.sumPayments, waivers: TEXTS.sumWaivers,
@@ -31,6 +33,15 @@ const TABLES = {
   },
   copy: { head: TEXTS.copyOf, columns: [copy, title, [TEXTS.colTitleNumber, whole("title")], [TEXTS.colHome, ({ home }) => branchName(home)], [TEXTS.colPrice, money("price")], [TEXTS.colPlace, where]] },
   copies: { head: TEXTS.copiesOf, columns: [copy, [TEXTS.colPlace, where]] },
+  "missing-copies": { head: TEXTS.missingCopies, columns: [copy, title, [TEXTS.colTitleNumber, whole("title")], [TEXTS.colHome, ({ home }) => branchName(home)]] },
+  loans: { head: TEXTS.loansOf, columns: [[TEXTS.colLoan, whole("loan")], patron, [TEXTS.colMade, whole("made")], [TEXTS.colDue, whole("due")], [TEXTS.colEnded, orNone("ended")]] },
+  branches: { head: TEXTS.branches, columns: [[TEXTS.branch, whole("branch")], [TEXTS.colName, free("name")], [TEXTS.colClosed, closed], [TEXTS.colPickUpDays, whole("pickup")]] },
+  "closed-days": { head: TEXTS.closedDaysOf, columns: [[TEXTS.colDay, whole("day")]] },
+  kinds: { head: TEXTS.kinds, columns: [[TEXTS.colKind, whole("kind")], [TEXTS.colLoans, whole("loans")], [TEXTS.colHolds, whole("holds")], [TEXTS.colDebt, money("debt")]] },
+  rules: {
+    head: TEXTS.rulesOf,
+    columns: [[TEXTS.colCopyKind, whole("copyKind")], [TEXTS.colPeriod, whole("period")], [TEXTS.colRenewals, whole("renewals")], [TEXTS.colRate, money("rate")], [TEXTS.colCap, money("cap")], [TEXTS.colGrace, whole("grace")]],
+  },
   queue: { head: TEXTS.queueOf, columns: [hold, patron, [TEXTS.colPickUp, ({ branch }) => branchName(branch)], [TEXTS.colFrom, orNone("from")]] },
 };
 
@@ -46,9 +57,17 @@ export function isSearch(question) {
   return question === "find-patrons" || question === "find-titles";
 }
 
+// What is told above a list that has no head of its own, of what was asked about.
+export function headOf(question, about) {
+  if (isSearch(question)) return { sought: about };
+  if (question === "closed-days") return { branch: branchName(about) };
+  if (question === "loans") return { copy: about };
+  return question === "rules" ? { kind: about } : null;
+}
+
 // The words of a question about a branch, a number, a day or a text, from a number on.
 export function wordsOfQuestion(question, about, after) {
   if (isSearch(question)) return [question, after, about];
   if (question === "copy" || question === "till") return [question, about];
-  return question === "debts" ? [question, after] : [question, about, after];
+  return ["debts", "branches", "kinds", "missing-copies"].includes(question) ? [question, after] : [question, about, after];
 }
