@@ -52,6 +52,20 @@ export const COMMANDS = {
   "loans": ["copy", "after"],
 };
 
+// The kinds of the parts that aren't numbers.
+export const KINDS = {
+  "day": "Day",
+  "name": "Name",
+  "mask": "Mask",
+  "debt": "Amount",
+  "rate": "Amount",
+  "cap": "Amount",
+  "card-key": "CardKey",
+  "price": "Amount",
+  "text": "Name",
+  "amount": "Amount",
+};
+
 // The commands that only ask.
 export const QUESTIONS = ["page", "copy", "copies", "queue", "account", "debts", "overdue", "shelf", "pulls", "transits", "till", "today", "borrower", "find-patrons", "find-titles",
   "branches", "closed-days", "kinds", "rules", "missing-copies", "loans"];
@@ -59,24 +73,24 @@ export const QUESTIONS = ["page", "copy", "copies", "queue", "account", "debts",
 // Whether words only ask, and change nothing.
 export const onlyAsk = (words) => QUESTIONS.includes(words[0]);
 
-// The words of a line: parted by blanks, and what stands in quotes of one kind is one word. Null where a quote isn't closed.
-export function wordsOf(line) {
+// The words of a line, parted by blanks, where what stands in quotes of one kind is one word; and the rest, where a quote isn't closed or stands within a word.
+export function readLine(line) {
   const words = [];
   const form = /\s*(?:'([^']*)'|"([^"]*)"|([^\s'"]+))(?=\s|$)/y;
   let at = 0;
   while (at < line.length) {
     form.lastIndex = at;
     const found = form.exec(line);
-    if (!found) return line.slice(at).trim() === "" ? words : null;
+    if (!found) return { words, rest: line.slice(at).trim() };
     words.push(found[1] ?? found[2] ?? found[3]);
     at = form.lastIndex;
   }
-  return words;
+  return { words, rest: "" };
 }
 
-// Whether the words are a command's name and as many words as it has parts.
-export function isCommand(words) {
-  return words !== null && words.length > 0 && Object.hasOwn(COMMANDS, words[0]) && words.length === COMMANDS[words[0]].length + 1;
+// Typed words as the desk takes them: their amounts, such as 2.50, in cents. They are of a command in its form.
+export function wordsTyped([command, ...words]) {
+  return [command, ...words.map((word, at) => (KINDS[COMMANDS[command][at]] === "Amount" ? String(centsOf(word)) : word))];
 }
 
 // The command whose name begins the line, for a hint.

@@ -267,7 +267,16 @@ export const TEXTS = {
   loanLine: "{text}, loan {loan}, due on {due}, {renewals}",
   holdLine: "{text}, hold {hold}, {state}",
   readyUntil: "ready at {branch} until {until}",
-  noSuchWords: "This is not a command.",
+  unknownCommand: "Unknown command {word}; the field offers them all.",
+  openQuote: "A quote is not closed: {word}",
+  hyphen: "No word may begin with a hyphen: {word}",
+  otherWords: "Words after {command}: {found} instead of {wanted}. {parts}",
+  mustBe: "{part} must be {must}: {word}",
+  mustNumber: "a number up to 4294967295, without a leading zero",
+  mustDay: "a day from 2000-01-01 to 2199-12-31, such as 2026-03-02",
+  mustMask: "seven letters, Monday to Sunday: o for open, c for closed",
+  mustCardKey: "8 to 32 ASCII letters and digits",
+  mustName: "1 to 120 bytes, with no control character and no space at either end",
   cardKeyNotKept: "A card key is not kept while a command waits. Type the command again.",
   isSent: "{what} (sending)",
   confirmAmount: "Does patron {patron} pay {paid}? If not, go on without it.",
@@ -286,7 +295,7 @@ export const TEXTS = {
   aTitle: "title {number}",
   anAmount: "{number} paid",
   forPatron: "{what}, patron {patron}",
-  wordsFollow: "{name} {parts}",
+  wordsFollow: "{command} {parts}",
 };
 
 // A text with its braces filled in.

@@ -1,22 +1,25 @@
 // The line for any words of the commands, with a hint at what follows the name of one.
 
-import { COMMANDS, commandBegun, isCommand, wordsOf } from "./commands.js";
+import { COMMANDS, commandBegun, readLine, wordsTyped } from "./commands.js";
+import { problemOfLine } from "./misread.js";
 import { focusScan } from "./scan_line.js";
 import { it, tell } from "./screen.js";
 import { TEXTS, say } from "./texts.js";
 
 function hint() {
   const name = commandBegun(it("words").value);
-  it("parts").textContent = name ? say(TEXTS.wordsFollow, { name, parts: COMMANDS[name].join(" ").toUpperCase() }) : "";
+  it("parts").textContent = name ? say(TEXTS.wordsFollow, { command: name, parts: COMMANDS[name].join(" ").toUpperCase() }) : "";
 }
 
+// Takes the line, which stays in its field where it isn't understood.
 function take(work, event) {
   event.preventDefault();
-  const words = wordsOf(it("words").value);
-  if (!isCommand(words)) return tell(TEXTS.noSuchWords, true);
+  const line = it("words").value;
+  const problem = line.trim() === "" ? null : problemOfLine(line);
+  if (problem) return tell(problem, true);
   it("words").value = "";
   hint();
-  work().words(words);
+  if (line.trim() !== "") work().words(wordsTyped(readLine(line).words));
   return focusScan();
 }
 
