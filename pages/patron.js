@@ -3,6 +3,7 @@
 import { once } from "./clicks.js";
 import { holdBody, isKey, isNumber } from "./commands.js";
 import { daysBetween, today } from "./days.js";
+import { marked, plain, write } from "./isolating.js";
 import { renewalsLeft, saidNo, stateOf } from "./saying.js";
 import { SignedIn } from "./signed_in.js";
 import { BRANCHES, TEXTS, amount, fillIn, say } from "./texts.js";
@@ -25,8 +26,7 @@ const actOnce = once((_, path) => act(path));
 function item(lines, action) {
   const made = document.createElement("li");
   for (const [text, name] of lines) {
-    const line = document.createElement("span");
-    line.textContent = text;
+    const line = write(document.createElement("span"), text);
     if (name) line.className = name;
     made.append(line);
   }
@@ -34,7 +34,7 @@ function item(lines, action) {
     const button = document.createElement("button");
     button.type = "button";
     button.textContent = action.text;
-    button.setAttribute("aria-label", action.label);
+    button.setAttribute("aria-label", plain(action.label));
     button.addEventListener("click", (event) => actOnce(event, action.path));
     made.append(button);
   }
@@ -49,12 +49,12 @@ function left(loan) {
 }
 
 function loanItem(loan) {
-  return item([[loan.text, "title"], [loan.due, null], left(loan), [renewalsLeft(loan), null]],
+  return item([[marked(loan.text), "title"], [loan.due, null], left(loan), [renewalsLeft(loan), null]],
     loan.renewals > 0 ? { text: TEXTS.renew, label: say(TEXTS.renewOf, loan), path: `/loans/${loan.loan}/renew` } : null);
 }
 
 function holdItem(hold) {
-  return item([[hold.text, "title"], [stateOf(hold), hold.state]],
+  return item([[marked(hold.text), "title"], [stateOf(hold), hold.state]],
     hold.state === "waiting" ? { text: TEXTS.cancel, label: say(TEXTS.cancelOf, hold), path: `/holds/${hold.hold}/cancel` } : null);
 }
 
@@ -63,7 +63,7 @@ function none(text) {
 }
 
 function show(page) {
-  it("name").textContent = page.name;
+  write(it("name"), marked(page.name));
   it("owed").textContent = page.owed === 0 ? TEXTS.owesNothing : say(TEXTS.owes, { owed: amount(page.owed) });
   it("owed").className = page.owed === 0 ? "" : "late";
   it("loans").replaceChildren(...(page.loans.length ? page.loans.map(loanItem) : [none(TEXTS.noLoans)]));

@@ -2,6 +2,7 @@
 
 import { COMMANDS } from "./commands.js";
 import { today } from "./days.js";
+import { marked } from "./isolating.js";
 import { patronOf } from "./receipt.js";
 import { MEANINGS, TEXTS, amount, branchName, say } from "./texts.js";
 

@@ -1,6 +1,7 @@
 // What the desk's page shows.
 
 import { today } from "./days.js";
+import { write } from "./isolating.js";
 import { receiptHead } from "./receipt.js";
 import { confirmingOf, labelOf, pageLines } from "./saying.js";
 import { slipLines } from "./slips.js";
@@ -22,13 +23,13 @@ export function tell(text, isWrong = false) {
 }
 
 export function tellQuietly(text, isWrong) {
-  it("told").textContent = text;
+  write(it("told"), text);
   it("told").classList.toggle("wrong", isWrong);
 }
 
 function line(text) {
   const made = document.createElement("li");
-  made.textContent = text;
+  made.append(write(document.createElement("span"), text));
   return made;
 }
 
@@ -68,10 +69,10 @@ export function showWaiting(queue) {
 export function showVisit(visit) {
   const owed = visit && amount(visit.page.owed);
   it("patron").hidden = visit === null;
-  it("patron-head").textContent = visit ? say(TEXTS.patronHead, { ...visit.page, owed }) : "";
+  write(it("patron-head"), visit ? say(TEXTS.patronHead, { ...visit.page, owed }) : "");
   it("patron-lines").replaceChildren(...(visit ? pageLines(visit.page, visit.untils) : []).map(line));
   it("visit").hidden = visit === null;
-  it("receipt-head").textContent = visit ? receiptHead(visit.receipt) : "";
+  write(it("receipt-head"), visit ? receiptHead(visit.receipt) : "");
   it("receipt").replaceChildren(...(visit?.receipt.rows ?? []).map(line));
 }
 

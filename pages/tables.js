@@ -1,10 +1,12 @@
 // The tables of what is asked of the desk: their heads, columns and cells.
 
+import { marked } from "./isolating.js";
 import { whereIs } from "./saying.js";
 import { TEXTS, amount, branchName, say } from "./texts.js";
 
 const whole = (name) => (row) => String(row[name]);
 const orNone = (name) => (row) => (row[name] === null ? "" : String(row[name]));
+const free = (name) => (row) => (row[name] === null ? "" : marked(row[name]));
 const money = (name) => (row) => amount(row[name]);
 const where = ({ place }) => whereIs(place);
 const weekdays = TEXTS.weekdays.split(" ");
@@ -15,7 +17,7 @@ const sorts = {
 };
 const sort = (row) => sorts[row.sort];
 
-const [copy, hold, patron, title] = [[TEXTS.colCopy, whole("copy")], [TEXTS.colHold, orNone("hold")], [TEXTS.colPatron, whole("patron")], [TEXTS.colTitle, orNone("text")]];
+const [copy, hold, patron, title] = [[TEXTS.colCopy, whole("copy")], [TEXTS.colHold, orNone("hold")], [TEXTS.colPatron, whole("patron")], [TEXTS.colTitle, free("text")]];
 
 // Of each question its head, and its columns with what stands in them of a row.
 const TABLES = {
@@ -24,8 +26,8 @@ const TABLES = {
   overdue: { head: TEXTS.overdue, columns: [[TEXTS.colLoan, whole("loan")], patron, copy, [TEXTS.colDue, whole("due")], [TEXTS.colLate, whole("late")], title] },
   transits: { head: TEXTS.transits, columns: [copy, title, hold] },
   till: { head: TEXTS.tillOf, columns: [[TEXTS.colSum, sort], [TEXTS.colAmount, money("amount")]] },
-  debts: { head: TEXTS.debts, columns: [patron, [TEXTS.colName, whole("name")], [TEXTS.colOwed, money("owed")]] },
-  "find-patrons": { head: TEXTS.foundPatrons, columns: [patron, [TEXTS.colName, whole("name")], [TEXTS.colOwed, money("owed")]] },
+  debts: { head: TEXTS.debts, columns: [patron, [TEXTS.colName, free("name")], [TEXTS.colOwed, money("owed")]] },
+  "find-patrons": { head: TEXTS.foundPatrons, columns: [patron, [TEXTS.colName, free("name")], [TEXTS.colOwed, money("owed")]] },
   "find-titles": { head: TEXTS.foundTitles, columns: [[TEXTS.colTitleNumber, whole("title")], title] },
   account: {
     head: TEXTS.accountOf,

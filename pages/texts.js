@@ -1,3 +1,5 @@
+import { marked } from "./isolating.js";
+
 // Every text that the pages show, so that a town can have them in its own language. {braces} are filled in.
 // The meanings of the numbers are those that the program says: tests/gate/pages.py compares them.
 
@@ -298,9 +300,12 @@ export const TEXTS = {
   wordsFollow: "{command} {parts}",
 };
 
-// A text with its braces filled in.
+// what is filled in that somebody was free to write: names, titles, what is searched for and words that are misread
+const FREE = ["name", "text", "whom", "sought", "word"];
+
+// A text with its braces filled in, names and titles marked.
 export function say(text, values = {}) {
-  return text.replace(/\{(\w+)\}/g, (_, name) => String(values[name]));
+  return text.replace(/\{(\w+)\}/g, (_, part) => (FREE.includes(part) ? marked(values[part]) : String(values[part])));
 }
 
 // The name of a branch, or its number where the town gave it none; other tables are for tests.
