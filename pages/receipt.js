@@ -7,7 +7,7 @@ export function newReceipt({ patron, name }, day, branch) {
 }
 
 export function receiptHead({ name, day, branch }) {
-  return say(TEXTS.receiptHead, { name, day, branch: branchName(branch) });
+  return say(TEXTS.receiptHead, { name, day: day ?? TEXTS.noDay, branch: branchName(branch) });
 }
 
 // The patron whom words are for, as they say; a renewal names none.

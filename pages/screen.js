@@ -39,9 +39,12 @@ export function note(what, text, lines) {
   while (it("last").children.length > MOST) it("last").lastElementChild.remove();
 }
 
-// Shows where the desk is, and the day of this machine; nothing where it is closed.
-export function showHead(branch) {
-  it("place").textContent = branch === null ? "" : say(TEXTS.deskHead, { town: TEXTS.town, branch: branchName(branch), day: today() });
+// Shows where the desk is, and the library's day, loudly where it isn't that of this machine; nothing where the desk is closed.
+export function showHead(branch, day) {
+  const isOther = branch !== null && day !== null && day !== today();
+  it("place").textContent = branch === null ? "" : say(TEXTS.deskHead, { town: TEXTS.town, branch: branchName(branch), day: day ?? TEXTS.noDay });
+  it("place").classList.toggle("other-day", isOther);
+  it("other-day").textContent = isOther ? say(TEXTS.otherDay, { day, today: today() }) : "";
 }
 
 // Shows by what the item that stopped the queue is sent again: by a button, and where it begins another day by a typed yes too.

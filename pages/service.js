@@ -1,7 +1,7 @@
 // How a desk serves: words are sent, what they changed is asked for and told, and the patron at the desk has a page and a receipt.
 
 import { newKey } from "./asking.js";
-import { today } from "./days.js";
+import { onlyAsk } from "./commands.js";
 import { readCopy, readList } from "./questions.js";
 import { newReceipt, patronOf, receiptRow } from "./receipt.js";
 import { said, saidFully, saidNo, shownWords, whereIs } from "./saying.js";
@@ -39,12 +39,21 @@ export class Service {
     const words = ["page", patron];
     const answer = await this.asked(words, key);
     if (answer?.reply?.kind !== "page") return this.failed(words, answer?.reply ? { strange: 200 } : answer);
-    this.visit = { page: answer.reply, receipt: newReceipt(answer.reply, today(), this.branch), untils: {} };
+    this.visit = { page: answer.reply, receipt: newReceipt(answer.reply, this.day.now, this.branch), untils: {} };
     this.showVisit();
     this.screen.told(said(answer.reply));
     this.screen.noted(shownWords(words), said(answer.reply), []);
+    this.lookForDay();
     await this.lookForDays();
     return "done";
+  }
+
+  // The library's day of a visit that begins. Nothing waits for it.
+  async lookForDay() {
+    const { receipt } = this.visit;
+    await this.day.look();
+    receipt.day = this.day.now;
+    if (this.visit?.receipt.patron === receipt.patron) this.showVisit();
   }
 
   // Renews the loan that a copy is on.
@@ -72,7 +81,8 @@ export class Service {
   async done(words, answer, known) {
     const { reply } = answer;
     this.screen.told(said(reply));
-    const more = { ...known, ...await this.look(words, said(reply)) };
+    if (words[0] === "begin-day") this.day.begun(words[1]);
+    const more = { ...known, ...await this.look(words, reply, known.shelved) };
     this.addToReceipt(words, reply, more.page);
     const told = saidFully(words, reply, more);
     this.tellDone(words, answer, told);

@@ -91,6 +91,8 @@ export const TEXTS = {
   printReceipt: "Print the receipt",
   town: "Town library",
   deskHead: "{town}, {branch}, {day}",
+  noDay: "…",
+  otherDay: "The library's day is {day}, but this machine's date is {today}.",
   branchNumber: "branch {branch}",
   unknownOpening: "No answer. Trying again.",
   refusedCopy: "{problem} {text}: {place}",
