@@ -54,8 +54,13 @@ export function tableOf(question, { head, rows }) {
   return { head: say(text, told), columns: columns.map(([name]) => name), rows: rows.map((row) => columns.map(([, cell]) => cell(row))) };
 }
 
+// The hold that a row of a list is about, where its copy was kept until a day that is over.
+export function expiredHold(question, { hold, until }, day) {
+  return question === "shelf" && day !== null && until < day ? hold : null;
+}
+
 // Whether a question looks for a text.
-export function isSearch(question) {
+function isSearch(question) {
   return question === "find-patrons" || question === "find-titles";
 }
 
