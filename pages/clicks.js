@@ -1,6 +1,6 @@
 // Of a double click, or a key that is held down, the first alone counts.
 
-const APART = 600;
+export const APART = 600;
 
 // `act` as it is called by clicks: those that come right after one that counted are passed over.
 export function once(act, now = () => performance.now()) {

@@ -2,19 +2,26 @@
 
 import { askUntilAnswered, newKey } from "./asking.js";
 import { isKey, isNumber } from "./commands.js";
-import { clearLists, listenForLists } from "./desk_lists.js";
+import { clearLists, clearLookUps, listenForLists, showTillDay } from "./desk_lists.js";
+import { LeftBehind, openTabs } from "./left_behind.js";
+import { LibraryDay } from "./library_day.js";
+import { Papers } from "./papers.js";
 import { saidNo } from "./saying.js";
-import { focusScan, listenForScans } from "./scan_line.js";
-import { it, note, print, putSlipsAway, showHead, showSlip, showVisit, showWaiting, showWanted, tell, tellQuietly } from "./screen.js";
+import { backToLine, focusScan, listenForScans } from "./scan_line.js";
+import { MOST_NOTES, clearNotes, it, note, print, putSlipsAway, showHead, showMode, showOpen, showSlip, showVisit, showWaiting, showWanted, tell, tellQuietly } from "./screen.js";
 import { isSoundOn, switchSound } from "./sound.js";
 import { TEXTS, fillIn, say } from "./texts.js";
 import { listenForWords } from "./word_line.js";
 import { Work } from "./work.js";
 
 const DESK = "circ.desk-key";
+const MINUTE = 60_000;
 // what is under way while the desk is open, and what ends it
 let work = null;
 let leaving = null;
+let day = null;
+let asking = null;
+let papers = null;
 
 function desk() {
   const text = sessionStorage.getItem(DESK);
@@ -27,23 +34,43 @@ function askBy(keyValue, signal, words, requestKey, unknown) {
   return askUntilAnswered(request, unknown, { signal });
 }
 
+function showDay() {
+  showHead(desk().branch, day.now);
+  if (day.now !== null) showTillDay(day.now);
+}
+
 const screen = {
-  told: tell,
+  told: (text, isWrong, isSpecial) => {
+    tell(text, isWrong, isSpecial);
+    if (isWrong) backToLine();
+  },
   toldMore: (text) => tellQuietly(text, true),
-  noted: note,
+  noted: (...what) => {
+    note(...what);
+    papers.addNote(...what);
+  },
   waiting: (queue) => {
-    showHead(desk().branch);
+    showDay();
     showWaiting(queue);
   },
   wanted: showWanted,
   visit: showVisit,
-  slip: showSlip,
+  slip: (slip) => {
+    showSlip(slip);
+    papers.addSlip(slip);
+  },
+  nobody: () => {
+    clearNotes();
+    papers.clearNotes();
+    clearLookUps();
+  },
 };
 
 it("print-receipt").addEventListener("click", () => print("receipt"));
 it("print-slips").addEventListener("click", () => print("slips"));
 it("put-away").addEventListener("click", () => {
   putSlipsAway();
+  papers.clearSlips();
   focusScan();
 });
 
@@ -54,18 +81,27 @@ it("sound").addEventListener("change", () => {
 });
 
 function open() {
-  it("sign-in").hidden = true;
-  it("desk").hidden = false;
+  showOpen(true);
   leaving = new AbortController();
   const { key, branch } = desk();
   const { signal } = leaving;
   const ask = (words, requestKey, unknown) => askBy(key, signal, words, requestKey, () => tellQuietly(unknown, true));
-  work = new Work({ branch, ask, screen, storage: sessionStorage });
-  showVisit(work.service.visit);
-  showWanted(work.expected);
+  day = new LibraryDay((words) => askBy(key, signal, words, newKey(), () => {}), showDay);
+  asking = setInterval(() => day.look(), MINUTE);
+  papers = new Papers(sessionStorage, MOST_NOTES);
+  for (const slip of papers.slips) showSlip(slip);
+  for (const what of papers.notes) note(...what);
+  const behind = new LeftBehind(branch, key, sessionStorage, localStorage);
+  behind.beOpen();
+  work = new Work({ branch, ask, screen, storage: sessionStorage, day, kept: (items) => behind.keep(items) });
+  showMode(work.turn.mode);
+  work.showTurn();
   focusScan();
   if (work.queue.isStopped) tell(TEXTS.stillStopped, true);
   work.queue.run();
+  if (work.service.visit?.receipt.day === null) work.service.lookForDay();
+  else day.look();
+  return behind;
 }
 
 // Opens the desk once its key and its branch are found right, by a question that wants both.
@@ -74,14 +110,25 @@ async function tryToOpen(key, branch) {
   const mine = new AbortController();
   leaving = mine;
   tell(TEXTS.sending);
-  const answer = await askBy(key, mine.signal, ["shelf", branch, "0"], newKey(), () => tellQuietly(TEXTS.unknownOpening, true));
+  const words = ["shelf", branch, "0"];
+  const answer = await askBy(key, mine.signal, words, newKey(), () => tellQuietly(TEXTS.unknownOpening, true));
   if (!answer || mine !== leaving) return;
-  if (answer.reply?.kind !== "shown") return tell(saidNo(answer.reply ? { strange: 200 } : answer), true);
+  if (answer.reply?.kind !== "shown") return tell(saidNo(answer.reply ? { strange: 200 } : answer, words), true);
   sessionStorage.setItem(DESK, JSON.stringify({ key, branch }));
   it("desk-key").value = "";
   tell("");
-  open();
+  const tabs = await openTabs();
+  if (mine === leaving) takeOver(open().take(tabs));
 }
+
+// Puts what waited in a tab that is closed before the clerk, who says whether it is sent.
+function takeOver(items) {
+  work.queue.takeOver(items);
+  if (items.length > 0) tell(TEXTS.leftBehind, true);
+}
+
+// Whoever closes the page while something waits is asked by the browser.
+window.addEventListener("beforeunload", (event) => work?.queue.isEmpty === false && event.preventDefault());
 
 it("sign-in").addEventListener("submit", (event) => {
   event.preventDefault();
@@ -104,12 +151,12 @@ it("sign-out").addEventListener("click", () => {
   showVisit(null);
   putSlipsAway();
   clearLists();
-  showHead(null);
-  it("desk").hidden = true;
-  it("sign-in").hidden = false;
-  it("last").replaceChildren();
+  showHead(null, null);
+  clearInterval(asking);
+  showOpen(false);
+  clearNotes();
   for (const form of document.forms) form.reset();
-  it("modes").querySelector("input").checked = true;
+  showMode("check-out");
   tell(closing(unknown, unsent), unknown.length + unsent.length > 0);
   it("desk-key").focus();
 });
@@ -117,5 +164,5 @@ it("sign-out").addEventListener("click", () => {
 fillIn();
 listenForScans(() => work);
 listenForWords(() => work);
-listenForLists(() => ({ branch: desk().branch, ask: (words, unknown) => askBy(desk().key, leaving.signal, words, newKey(), unknown) }));
+listenForLists(() => ({ branch: desk().branch, day: day.now, take: (words) => work.words(words), ask: (words, unknown) => askBy(desk().key, leaving.signal, words, newKey(), unknown) }));
 if (desk()) open();

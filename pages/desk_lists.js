@@ -5,7 +5,7 @@ import { write } from "./isolating.js";
 import { readCopy, readList } from "./questions.js";
 import { saidNo } from "./saying.js";
 import { cut, nameOf } from "./scans.js";
-import { focusScan } from "./scan_line.js";
+import { backToLine, focusScan } from "./scan_line.js";
 import { it, print } from "./screen.js";
 import { csvOf, fileNameOf, sorted, sortedNext } from "./sheet.js";
 import { expiredHold, headOf, tableOf, wordsOfQuestion } from "./tables.js";
@@ -24,6 +24,7 @@ let unshelved = new Set();
 function tell(text, isWrong = false) {
   it("list-told").textContent = text;
   it("list-told").classList.toggle("wrong", isWrong);
+  if (isWrong) backToLine();
 }
 
 // A row; with a button for the hold that is to leave the hold shelf, if there is one.

@@ -2,12 +2,22 @@
 
 import { once } from "./clicks.js";
 import { beginsScan, endsScan, scansIn } from "./scans.js";
-import { it, mode, showWanted } from "./screen.js";
+import { it, mode, tell } from "./screen.js";
+import { TEXTS, say } from "./texts.js";
 
 let lastKey = "";
 
 export function focusScan() {
   it("scan").focus();
+  it("scan").scrollIntoView({ block: "nearest" });
+}
+
+const isField = (target) => target.closest("input:not([type=radio], [type=checkbox]), select, textarea") !== null;
+
+// The next scan goes to the line, unless the clerk is in another field.
+export function backToLine() {
+  const at = document.activeElement;
+  if (!it("desk").hidden && (at === it("scan") || !isField(at))) focusScan();
 }
 
 function take(work, event, text) {
@@ -30,10 +40,9 @@ function listenToLine(work) {
   it("scan").addEventListener("paste", (event) => paste(work, event));
 }
 
-// A copy that comes in is nobody's at the desk; the other modes go on with the patron. By the arrows one goes on among the modes; whatever else chooses one
-// leads to the line.
+// By the arrows one goes on among the modes; whatever else chooses one leads to the line.
 function listenToModes(work) {
-  it("modes").addEventListener("change", () => (mode() === "check-in" ? work().nextPatron() : showWanted(work().expected)));
+  it("modes").addEventListener("change", () => work().choose(mode()));
   it("modes").addEventListener("click", () => lastKey.startsWith("Arrow") || focusScan());
   it("modes").addEventListener("keydown", (event) => event.key === "Enter" && focusScan());
 }
@@ -41,10 +50,9 @@ function listenToModes(work) {
 function listenToButtons(work) {
   it("confirming").addEventListener("submit", (event) => event.preventDefault());
   const does = {
-    "next": () => work().nextPatron(),
     "again": () => work().sendAgain(it("typed").value),
-    "send-on": () => work().queue.sendOn(),
-    "throw-away": () => work().queue.throwAway(),
+    "send-on": () => work().sendOn(),
+    "throw-away": () => work().throwAway(),
   };
   for (const [id, act] of Object.entries(does)) {
     it(id).addEventListener("click", once(() => {
@@ -54,15 +62,43 @@ function listenToButtons(work) {
   }
 }
 
-const isField = (target) => target.closest("input:not([type=radio], [type=checkbox]), select, textarea") !== null;
+// Next patron counts when a mouse presses it, for the page may move before it lets go, and then no click comes; and however soon it comes after another one. What
+// stands in the line is for nobody then, and is told.
+function listenToNext(work) {
+  let pressedBy = "";
+  const end = () => {
+    const left = it("scan").value.trim();
+    it("scan").value = "";
+    work().nextPatron();
+    if (left !== "") tell(say(TEXTS.closedWaiting, { what: left }), true);
+    focusScan();
+  };
+  it("next").addEventListener("pointerdown", (event) => {
+    pressedBy = event.pointerType;
+    if (pressedBy !== "mouse" || event.button !== 0) return;
+    event.preventDefault();
+    end();
+  });
+  it("next").addEventListener("click", ({ detail }) => (detail === 0 || pressedBy !== "mouse") && end());
+}
+
+// What goes on in the line: a character, or the end or a correction of what stands there, where that isn't for a button.
+const isForLine = (event) => beginsScan(event) || (["Enter", "Backspace"].includes(event.key) && event.target.closest("button, summary, a") === null);
 
 // What is scanned while a button has the focus goes to the line all the same. A click that isn't on a field or a button leads there too, but text that is being
 // selected stays so.
-function listenToPage() {
+function listenToPage(work) {
   document.addEventListener("keydown", (event) => {
     lastKey = event.key;
-    if (!it("desk").hidden && beginsScan(event) && !isField(event.target)) focusScan();
+    if (isForLine(event)) backToLine();
   });
+  document.addEventListener("paste", (event) => {
+    if (it("desk").hidden || isField(event.target)) return;
+    paste(work, event);
+    if (!event.defaultPrevented) it("scan").value += event.clipboardData.getData("text").trim();
+    focusScan();
+  });
+  window.addEventListener("focus", backToLine);
   document.addEventListener("pointerdown", () => { lastKey = ""; });
   document.addEventListener("click", (event) => {
     const isSelecting = !document.getSelection().isCollapsed;
@@ -75,5 +111,6 @@ export function listenForScans(work) {
   listenToLine(work);
   listenToModes(work);
   listenToButtons(work);
-  listenToPage();
+  listenToNext(work);
+  listenToPage(work);
 }

@@ -14,9 +14,9 @@ export function endsScan({ key, ctrlKey, shiftKey }, text) {
   return (key === "Tab" && !shiftKey && text.trim() !== "") || (ctrlKey && ["j", "m"].includes(key.toLowerCase()));
 }
 
-// Whether a key writes a character that may begin a scan.
+// Whether a key writes a character that may begin a scan; a keyboard on a screen doesn't tell which.
 export function beginsScan({ key, ctrlKey, altKey, metaKey }) {
-  return key.length === 1 && key !== " " && !ctrlKey && !altKey && !metaKey;
+  return ((key.length === 1 && key !== " ") || key === "Unidentified") && !ctrlKey && !altKey && !metaKey;
 }
 
 // The number of a scan without its prefix, and whose prefix it was: a patron's, a copy's, or null for none.

@@ -9,16 +9,26 @@ import { soundAlarm } from "./sound.js";
 import { TEXTS, amount, branchName, say } from "./texts.js";
 import { beginsOtherDay, needsConfirming, wanted } from "./scans.js";
 
-const MOST = 20;
+export const MOST_NOTES = 20;
 export const it = (id) => document.getElementById(id);
 
 export function mode() {
   return document.querySelector("input[name=mode]:checked").value;
 }
 
-// Tells the clerk; what is wrong is heard too.
-export function tell(text, isWrong = false) {
-  tellQuietly(text, isWrong);
+export function showOpen(isOpen) {
+  it("sign-in").hidden = isOpen;
+  it("scanning").hidden = !isOpen;
+  it("desk").hidden = !isOpen;
+}
+
+export function showMode(value) {
+  document.querySelector(`input[name=mode][value=${value}]`).checked = true;
+}
+
+// Tells the clerk; what is wrong is heard too, and so is what is special about a copy that came in.
+export function tell(text, isWrong = false, isSpecial = false) {
+  tellQuietly(text, isWrong, isSpecial);
   if (isWrong) soundAlarm();
 }
 
@@ -36,7 +46,11 @@ function line(text) {
 // Notes what was sent, with what was told and the lines that follow it, above what was noted before.
 export function note(what, text, lines) {
   it("last").prepend(line(`${what}: ${text}`), ...lines.map(line));
-  while (it("last").children.length > MOST) it("last").lastElementChild.remove();
+  while (it("last").children.length > MOST_NOTES) it("last").lastElementChild.remove();
+}
+
+export function clearNotes() {
+  it("last").replaceChildren();
 }
 
 // Shows where the desk is, and the library's day, loudly where it isn't that of this machine; nothing where the desk is closed.
@@ -82,11 +96,15 @@ export function showVisit(visit) {
 // Adds a slip to those that are to be printed.
 export function showSlip(slip) {
   const made = document.createElement("article");
-  made.append(...slipLines(slip).map((text) => {
-    const shown = document.createElement("p");
-    shown.textContent = text;
-    return shown;
-  }));
+  made.append(...slipLines(slip).map((text) => write(document.createElement("p"), text)));
+  const button = document.createElement("button");
+  button.type = "button";
+  button.textContent = TEXTS.printSlip;
+  button.addEventListener("click", () => {
+    for (const other of it("slip-list").children) other.classList.toggle("alone", other === made);
+    print("slip");
+  });
+  made.append(button);
   it("slip-list").append(made);
   it("slips").hidden = false;
 }

@@ -29,8 +29,15 @@ export class Service {
     this.storage = null;
   }
 
+  // Forgets the patron who was there.
+  forget() {
+    this.visit = null;
+    this.showVisit();
+  }
+
   showVisit() {
-    this.storage?.setItem(VISIT, JSON.stringify(this.visit));
+    if (this.visit === null) this.storage?.removeItem(VISIT);
+    else this.storage?.setItem(VISIT, JSON.stringify(this.visit));
     this.screen.visit(this.visit);
   }
 

@@ -1,30 +1,73 @@
 // What a desk does with what was taken: one item after another, each by its requests.
 
 import { newKey } from "./asking.js";
-import { QUESTIONS } from "./commands.js";
+import { onlyAsk } from "./commands.js";
 import { Queue } from "./queue.js";
 import { confirmingOf, labelOf, shownWords, withoutCardKey } from "./saying.js";
 import { isConfirming, itemOf, needsConfirming, wordsOfItem } from "./scans.js";
 import { Service } from "./service.js";
 import { TEXTS } from "./texts.js";
+import { Turn } from "./turn.js";
 
-const onlyAsks = (item) => item.kind === "patron" || (item.kind === "words" && QUESTIONS.includes(item.words[0]));
+const onlyAsks = (item) => item.kind === "patron" || (item.kind === "words" && onlyAsk(item.words));
 const keptForm = (item) => (item.kind === "words" ? { ...item, words: withoutCardKey(item.words) } : item);
 
+// The patron for whom an item was scanned; null where it is nobody's, or words.
+const patronOfItem = (item) => (item?.kind === "patron" ? item.number : item?.patron ?? null);
+
 export class Work {
-  // `screen` shows what waits and what is wanted next, and what the service has to show.
-  constructor({ branch, ask, screen, storage }) {
+  // `screen` shows what waits and what is wanted next, and what the service has to show; `kept` has all that waits, each time.
+  constructor({ branch, ask, screen, storage, day, kept }) {
     Object.assign(this, { branch, screen });
-    this.service = new Service({ branch, ask, screen, storage });
-    // the patron for whom scans are taken
-    this.expected = this.service.visit?.page.patron ?? null;
-    this.queue = new Queue((item) => this.handle(item), () => screen.waiting(this.queue), { storage, form: keptForm });
+    this.turn = new Turn(storage);
+    this.service = new Service({ branch, ask, screen: this.screenOfTurn(), storage, day });
+    this.queue = new Queue((item) => this.handle(item), () => this.changed(), { storage, form: keptForm, kept });
+  }
+
+  // Whether what is sent is of a patron whose turn is over.
+  get isOver() {
+    const whose = patronOfItem(this.queue.current);
+    return whose !== null && whose !== this.expected;
+  }
+
+  // What is served is shown while it is its patron's turn: of whoever has left only what isn't right is told.
+  screenOfTurn() {
+    const { screen } = this;
+    return {
+      ...screen,
+      told: (text, isWrong = false, isSpecial = false) => (isWrong || isSpecial || !this.isOver) && screen.told(text, isWrong, isSpecial),
+      noted: (...what) => this.isOver || screen.noted(...what),
+      visit: (visit) => screen.visit(visit?.page.patron === this.expected ? visit : null),
+    };
+  }
+
+  // Nothing is kept of a patron whose turn is over, once nothing more of that patron is sent.
+  forgetFormer(item) {
+    const there = this.service.visit?.page.patron ?? null;
+    if (there !== null && there !== this.expected && there !== patronOfItem(item)) this.service.forget();
+  }
+
+  changed() {
+    if (this.queue.isEmpty) this.forgetFormer(null);
+    this.screen.waiting(this.queue);
+  }
+
+  // The patron for whom scans are taken.
+  get expected() {
+    return this.turn.patron;
+  }
+
+  // A copy that comes in is nobody's at the desk; the other modes go on with the patron.
+  choose(mode) {
+    this.turn.change({ mode });
+    if (mode === "check-in") this.nextPatron();
+    else this.showTurn();
   }
 
   // Takes a scan at once, for the patron whose scans are taken.
   scan(mode, text) {
     const item = itemOf(mode, this.expected, text);
-    if (item.kind === "patron") this.expected = item.number;
+    if (item.kind === "patron") this.turn.change({ patron: item.number });
     this.take(item);
   }
 
@@ -34,12 +77,22 @@ export class Work {
 
   take(item) {
     this.queue.add({ ...item, key: newKey() });
-    this.screen.wanted(this.expected);
+    this.showTurn();
   }
 
+  showTurn() {
+    this.screen.wanted(this.expected);
+    this.service.showVisit();
+  }
+
+  // Ends the turn of a patron, of whom nothing stays on the screen but what stopped the queue, where something waits or the clerk can't have seen it yet.
   nextPatron() {
-    this.expected = null;
-    this.screen.wanted(null);
+    this.turn.change({ patron: null });
+    if (this.queue.isEmpty && this.queue.isSeen()) this.queue.sendOn();
+    this.showTurn();
+    this.screen.nobody();
+    if (!this.queue.isStopped) this.screen.told("");
+    this.queue.show();
   }
 
   // Closes the desk: what may have been done then, and what was not sent.
@@ -47,12 +100,14 @@ export class Work {
     const { current, held, waiting } = this.queue;
     this.queue.end();
     this.service.end();
+    this.turn.end();
     const unsent = held && needsConfirming(held) ? [held, ...waiting] : waiting;
     const unknown = [held, current].filter((item) => item && !onlyAsks(item) && !needsConfirming(item));
     return { unknown: unknown.map(labelOf), unsent: unsent.map(labelOf) };
   }
 
   async handle(item) {
+    this.forgetFormer(item);
     this.service.label = item.kind === "words" ? "" : labelOf(item);
     if (item.kind === "wrong") return this.service.stop(item.problem, item.text);
     if (needsConfirming(item)) return this.confirm(item);
@@ -66,15 +121,30 @@ export class Work {
     return this.service.act(wordsOfItem(item, this.branch), item.key);
   }
 
-  // A patron who isn't let in isn't the one for whom scans are taken.
+  // A patron who isn't let in isn't the one for whom scans are taken, unless the same is asked again.
   async open(patron, key) {
     const outcome = await this.service.open(patron, key);
-    if (outcome !== "done" && this.expected === patron) this.nextPatron();
+    if (outcome === "stop" && this.expected === patron) {
+      this.turn.change({ patron: null });
+      this.showTurn();
+    }
     return outcome;
   }
 
+  // Goes on by the clerk's word, who has read what stopped the queue.
+  sendOn() {
+    this.screen.told("");
+    this.queue.sendOn();
+  }
+
+  throwAway() {
+    this.screen.told("");
+    this.queue.throwAway();
+  }
+
   confirm(item) {
-    this.screen.told(confirmingOf(item).asked, true);
+    const page = this.service.visit?.page;
+    this.screen.told(confirmingOf(item, page?.patron === item.patron ? page?.name : undefined).asked, true);
     return "again";
   }
 
