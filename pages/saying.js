@@ -1,6 +1,6 @@
 // What is said to the clerk: of replies, of refusals, and of what waits.
 
-import { COMMANDS } from "./commands.js";
+import { COMMANDS, KINDS } from "./commands.js";
 import { today } from "./days.js";
 import { marked } from "./isolating.js";
 import { patronOf } from "./receipt.js";
@@ -29,7 +29,7 @@ export function said(reply, name) {
     case "lent": return say(TEXTS.lent, reply);
     case "held": return say(TEXTS.heldNow, reply);
     case "owed": return say(TEXTS.owedNow, { owed: amount(reply.owed) });
-    case "moved": return placeOf(reply.place);
+    case "moved": return placeOf(reply.place, name);
     case "lost": return say(TEXTS.lost, { fine: amount(reply.fine), price: amount(reply.price) });
     case "checked in":
       return `${placeOf(reply.place, name)} ${reply.fine === 0 ? TEXTS.noFine : say(TEXTS.fine, { fine: amount(reply.fine) })}`;
@@ -45,7 +45,7 @@ export function said(reply, name) {
 // The title that words were about and the patron whom they were for, as far as what was asked after them tells these.
 function about(words, reply, { page, copy }) {
   const mine = page?.loans.find(({ loan }) => loan === reply.loan) ?? page?.holds.find(({ hold }) => hold === reply.hold);
-  if (reply.kind === "checked in") return { text: copy?.text, name: reply.place.hold && copy?.place.hold === reply.place.hold ? copy.place.name : undefined };
+  if (reply.kind === "checked in" || reply.kind === "moved") return { text: copy?.text, name: reply.place.hold && copy?.place.hold === reply.place.hold ? copy.place.name : undefined };
   if (copy) return { text: copy.text, name: words[0] === "rehome" ? undefined : copy.place.name };
   return { text: mine?.text, name: mine || patronOf(words) === page?.patron ? page?.name : undefined };
 }
@@ -55,20 +55,42 @@ function saidWithPlace(words, reply, name, copy) {
   return words[0] === "rehome" && copy ? `${said(reply)} ${whereIs(copy.place)}` : said(reply, name);
 }
 
-// What accepted words did, with the title and for whom.
-export function saidFully(words, reply, more) {
-  const { text, name } = about(words, reply, more);
-  const isIn = reply.kind === "checked in";
-  const done = saidWithPlace(words, reply, name, more.copy);
-  const told = text ? say(TEXTS.ofTitle, { text, told: done }) : done;
-  return name && !isIn ? say(TEXTS.forName, { told, name }) : told;
+// What is said in one sentence of a title and a patron; null where one of them isn't known, or there is no such sentence.
+function saidOfBoth(words, reply, { text, name }) {
+  if (reply.kind === "owed" && name) return say(TEXTS.owesNow, { name, owed: amount(reply.owed) });
+  if (!text || !name) return null;
+  if (reply.kind === "lent") return say(words[0] === "renew" ? TEXTS.renewedFor : TEXTS.lentTo, { ...reply, text, name });
+  return reply.kind === "held" ? say(TEXTS.heldFor, { ...reply, text, name }) : null;
 }
 
-// What an answer says that isn't a reply.
-export function saidNo(answer) {
+// What accepted words did, with the title and for whom; of a fine or a price, with who owes it.
+export function saidFully(words, reply, more) {
+  const known = about(words, reply, more);
+  const done = saidOfBoth(words, reply, known);
+  if (done) return done;
+  const moved = saidWithPlace(words, reply, known.name, more.copy);
+  const told = known.text ? say(TEXTS.ofTitle, { text: known.text, told: moved }) : moved;
+  if (more.debtor) return say(TEXTS.chargedTo, { told, name: more.debtor.name, owed: amount(more.debtor.owed) });
+  return known.name && !["checked in", "moved"].includes(reply.kind) ? say(TEXTS.forName, { told, name: known.name }) : told;
+}
+
+// Whether a copy that came in wants more of the clerk than to be put on its shelf.
+export function isSpecial({ kind, fine, place }) {
+  return kind === "checked in" && (fine > 0 || place.to !== "shelf");
+}
+
+// What a number means, which may hang on the words of a desk that were refused.
+function meaningOf(number, words) {
+  if (number === 81 && words !== null) return TEXTS.wrongKey;
+  if (number === 53 && words?.[0].startsWith("unshelve")) return TEXTS.notOnShelf;
+  return MEANINGS[number];
+}
+
+// What an answer says that isn't a reply; `words` are those of a desk, and null where a patron asked.
+export function saidNo(answer, words = null) {
   const number = answer.refusal ?? answer.fault ?? answer.status ?? answer.strange;
   const text = answer.refusal ? TEXTS.refused : answer.fault ? TEXTS.faulted : answer.status ? TEXTS.notTaken : TEXTS.strange;
-  return say(text, { number, meaning: MEANINGS[number] });
+  return say(text, { number, meaning: meaningOf(number, words) });
 }
 
 export function renewalsLeft(loan) {
@@ -98,7 +120,13 @@ export function withoutCardKey(words) {
 }
 
 export function shownWords(words) {
-  return withoutCardKey(words).map((word) => (word === "" ? "…" : word)).join(" ");
+  const partAt = (at) => COMMANDS[words[0]]?.[at - 1];
+  const shown = (word, at) => {
+    if (word === "") return "…";
+    if (KINDS[partAt(at)] === "Amount") return amount(Number(word));
+    return ["name", "text"].includes(partAt(at)) ? marked(word) : word;
+  };
+  return withoutCardKey(words).map(shown).join(" ");
 }
 
 export function labelOf(item) {
@@ -109,9 +137,9 @@ export function labelOf(item) {
   return say(item.patron === null ? what : TEXTS.forPatron, { what: say(what, { number }), number, patron: item.patron });
 }
 
-// What the clerk is asked before an item is sent, and what the button says by which it is sent then.
-export function confirmingOf({ kind, number, patron, words }) {
-  if (kind === "words") return { asked: say(TEXTS.confirmDay, { day: words[1], today: today(), yes: TEXTS.yes }), yes: say(TEXTS.yesBegun, { day: words[1] }) };
+// What the clerk is asked before an item is sent, and what the buttons say by which it is sent then or isn't; with the name of its patron, where it is known.
+export function confirmingOf({ kind, number, patron, words }, name) {
+  if (kind === "words") return { asked: say(TEXTS.confirmDay, { day: words[1], today: today(), yes: TEXTS.yes }), yes: say(TEXTS.yesBegun, { day: words[1] }), no: TEXTS.goOn };
   const paid = amount(number);
-  return { asked: say(TEXTS.confirmAmount, { patron, paid }), yes: say(TEXTS.yesPaid, { paid }) };
+  return { asked: say(TEXTS.confirmAmount, { whom: name ?? say(TEXTS.aPatron, { number: patron }), paid }), yes: say(TEXTS.yesPaid, { paid }), no: TEXTS.dont };
 }

@@ -5,7 +5,7 @@ import { write } from "./isolating.js";
 import { receiptHead } from "./receipt.js";
 import { confirmingOf, labelOf, pageLines } from "./saying.js";
 import { slipLines } from "./slips.js";
-import { soundAlarm } from "./sound.js";
+import { soundAlarm, soundChime } from "./sound.js";
 import { TEXTS, amount, branchName, say } from "./texts.js";
 import { beginsOtherDay, needsConfirming, wanted } from "./scans.js";
 
@@ -30,11 +30,13 @@ export function showMode(value) {
 export function tell(text, isWrong = false, isSpecial = false) {
   tellQuietly(text, isWrong, isSpecial);
   if (isWrong) soundAlarm();
+  else if (isSpecial) soundChime();
 }
 
-export function tellQuietly(text, isWrong) {
+export function tellQuietly(text, isWrong, isSpecial = false) {
   write(it("told"), text);
   it("told").classList.toggle("wrong", isWrong);
+  it("told").classList.toggle("special", isSpecial && !isWrong);
 }
 
 function line(text) {
@@ -61,13 +63,14 @@ export function showHead(branch, day) {
   it("other-day").textContent = isOther ? say(TEXTS.otherDay, { day, today: today() }) : "";
 }
 
-// Shows by what the item that stopped the queue is sent again: by a button, and where it begins another day by a typed yes too.
+// Shows by what the item that stopped the queue is sent again: by a button, and where it begins another day by a typed yes too. Gives what the button says that goes on without it.
 function showConfirming(held) {
   const isAsked = held !== null && needsConfirming(held);
   it("confirming").hidden = held === null;
   it("typing").hidden = !isAsked || !beginsOtherDay(held);
   if (it("typing").hidden) it("typed").value = "";
   it("again").textContent = isAsked ? confirmingOf(held).yes : TEXTS.sendAgain;
+  return isAsked ? confirmingOf(held).no : TEXTS.goOn;
 }
 
 // Shows what is sent and what waits, and what the clerk can do where the queue stands still.
@@ -77,8 +80,8 @@ export function showWaiting(queue) {
   it("waiting").replaceChildren(...shown.map(line));
   it("queue").hidden = !waits && !queue.isStopped;
   it("stopped").hidden = !queue.isStopped;
-  showConfirming(queue.held);
-  it("send-on").textContent = waits ? TEXTS.sendOn : TEXTS.goOn;
+  const without = showConfirming(queue.held);
+  it("send-on").textContent = waits ? TEXTS.sendOn : without;
   it("throw-away").hidden = !waits;
 }
 
@@ -93,7 +96,7 @@ export function showVisit(visit) {
   it("receipt").replaceChildren(...(visit?.receipt.rows ?? []).map(line));
 }
 
-// Adds a slip to those that are to be printed.
+// Adds a slip to those that are to be printed; each can be printed by itself, also a second time.
 export function showSlip(slip) {
   const made = document.createElement("article");
   made.append(...slipLines(slip).map((text) => write(document.createElement("p"), text)));

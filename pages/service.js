@@ -3,19 +3,20 @@
 import { newKey } from "./asking.js";
 import { onlyAsk } from "./commands.js";
 import { readCopy, readList } from "./questions.js";
-import { newReceipt, patronOf, receiptRow } from "./receipt.js";
-import { said, saidFully, saidNo, shownWords, whereIs } from "./saying.js";
+import { newReceipt, receiptRow } from "./receipt.js";
+import { isSpecial, said, saidFully, saidNo, shownWords, whereIs } from "./saying.js";
 import { slipOf } from "./slips.js";
-import { TEXTS, say } from "./texts.js";
+import { TEXTS, amount, say } from "./texts.js";
 
 const VISIT = "circ.visit";
+const UNSHELVES = ["unshelve", "unshelve-cancelled"];
 const SILENT = { told() {}, toldMore() {}, noted() {}, visit() {}, slip() {} };
 
 export class Service {
   // `ask` sends words under a key, says a text as often as no answer comes, and gives the answer, or null once the desk is closed; `screen` shows what is told and
-  // noted, the visit of a patron, and slips.
-  constructor({ branch, ask, screen, storage }) {
-    Object.assign(this, { branch, ask, screen, storage });
+  // noted, the visit of a patron, and slips; `day` is the library's.
+  constructor({ branch, ask, screen, storage, day }) {
+    Object.assign(this, { branch, ask, screen, storage, day });
     // what is being served, as it is called where it doesn't succeed
     this.label = "";
     // the patron whose page came, with the page, the receipt, and until when copies stand ready
@@ -73,8 +74,16 @@ export class Service {
     return this.act(["renew", copy.place.loan], key, { copy });
   }
 
-  // Sends words; `known` is what was asked of them before.
-  async act(words, key, known = {}) {
+  // The copy that stands on the hold shelf of this branch for a hold that is to leave it; none where it is another branch's.
+  async lookForShelved(hold) {
+    const answer = await this.asked(["shelf", this.branch, hold - 1], newKey());
+    const row = answer?.reply && readList("shelf", answer.text)?.rows[0];
+    return row?.hold === Number(hold) ? { shelved: row.copy } : {};
+  }
+
+  // Sends words; `found` is what was asked of them before.
+  async act(words, key, found = {}) {
+    const known = UNSHELVES.includes(words[0]) ? { ...found, ...await this.lookForShelved(words[1]) } : found;
     const answer = await this.asked(words, key);
     return answer?.reply ? this.done(words, answer, known) : this.failed(words, answer);
   }
@@ -95,11 +104,12 @@ export class Service {
     this.tellDone(words, answer, told);
     const slip = slipOf(reply, more.copy);
     if (slip) this.screen.slip(slip);
+    if (more.page) await this.lookForDays();
     return more.isMissing ? this.stop(say(TEXTS.restMissing, { told }), shownWords(words)) : "done";
   }
 
   tellDone(words, { reply, text }, told) {
-    this.screen.told(told);
+    this.screen.told(told, false, isSpecial(reply));
     this.screen.noted(shownWords(words), told, ["page", "shown"].includes(reply.kind) ? text.split("\n").slice(1) : []);
   }
 
@@ -108,20 +118,35 @@ export class Service {
     return this.ask(words.map(String), newKey(), say(TEXTS.restUnknown, { told }));
   }
 
-  // The copy that was moved, or the page of the patron at the desk, after words that may have changed it.
-  async look(words, told) {
-    if (["check-in", "missing", "withdraw", "amend-copy", "rehome"].includes(words[0])) return this.lookAtCopy(words[1], told);
-    if (!this.mayChangePage(words)) return {};
-    const answer = await this.question(["page", this.visit.page.patron], told);
-    return answer?.reply?.kind === "page" ? { page: answer.reply } : { isMissing: answer !== null };
+  // The copy that was moved, and the page of the patron at the desk: any words that do more than ask may have changed it.
+  async look(words, reply, shelved) {
+    const moved = ["check-in", "missing", "withdraw", "amend-copy", "rehome"].includes(words[0]) ? words[1] : shelved;
+    const copy = moved === undefined ? {} : await this.lookAtCopy(moved, said(reply));
+    const debtor = reply.fine > 0 || reply.price > 0 ? await this.lookForDebtor(words[1], said(reply)) : {};
+    const page = await this.lookAtPage(words, reply);
+    return { ...copy, ...debtor, ...page, isMissing: Boolean(copy.isMissing || debtor.isMissing || page.isMissing) };
   }
 
-  // Whether accepted words may have changed the page of the patron at the desk: it shows the titles of loans and holds.
-  mayChangePage(words) {
-    const page = this.visit?.page;
-    if (!page) return false;
-    if (words[0] === "amend-title") return [...page.loans, ...page.holds].some(({ title }) => title === Number(words[1]));
-    return words[0] === "renew" || patronOf(words) === page.patron;
+  // Who owes what a copy that came in or is missing cost, and how much in all: the patron of its last loan.
+  async lookForDebtor(number, told) {
+    let last = null;
+    for (let after = 0; after !== null;) {
+      const answer = await this.question(["loans", number, after], told);
+      const list = answer?.reply && readList("loans", answer.text);
+      if (!list) return { isMissing: answer !== null };
+      last = list.rows.at(-1) ?? last;
+      ({ after } = list);
+    }
+    const answer = last && await this.question(["borrower", last.patron], told);
+    return answer?.reply?.kind === "borrower" ? { debtor: answer.reply } : { isMissing: answer !== null };
+  }
+
+  async lookAtPage(words, reply) {
+    if (!this.visit) return {};
+    const { patron } = this.visit.page;
+    if (onlyAsk(words)) return reply.kind === "page" && reply.patron === patron ? { page: reply } : {};
+    const answer = await this.question(["page", patron], said(reply));
+    return answer?.reply?.kind === "page" ? { page: answer.reply } : { isMissing: answer !== null };
   }
 
   async lookAtCopy(number, told) {
@@ -130,10 +155,12 @@ export class Service {
     return copy ? { copy } : { isMissing: answer !== null };
   }
 
-  // Until when copies stand ready for the patron: the page tells no day, and the hold shelf has one for each hold.
+  // Until when copies stand ready for the patron: the page tells no day, and the hold shelf has one for each hold, which stays.
   async lookForDays() {
     const { page, untils } = this.visit;
-    for (const { hold, branch } of page.holds.filter(({ state }) => state === "ready")) {
+    const unknown = page.holds.filter(({ state, hold }) => state === "ready" && !(hold in untils));
+    if (unknown.length === 0) return;
+    for (const { hold, branch } of unknown) {
       const answer = await this.question(["shelf", branch, hold - 1], said(page));
       const row = answer?.reply && readList("shelf", answer.text)?.rows[0];
       if (row?.hold === hold) untils[hold] = row.until;
@@ -143,7 +170,7 @@ export class Service {
 
   addToReceipt(words, reply, page) {
     if (!this.visit) return;
-    if (page) Object.assign(this.visit, { page, receipt: { ...this.visit.receipt, name: page.name } });
+    if (page) Object.assign(this.visit, { page, receipt: Object.assign(this.visit.receipt, { name: page.name }) });
     const row = receiptRow(this.visit.page.patron, words, reply, page);
     if (row) this.visit.receipt.rows.push(row);
     if (page || row) this.showVisit();
@@ -152,9 +179,17 @@ export class Service {
   // How an item ended that has no reply: it can be sent again under its key where it isn't known whether it was done.
   async failed(words, answer) {
     if (!answer) return "stop";
-    this.stop(saidNo(answer), shownWords(words));
-    if (answer.refusal) await this.tellWhere({ "check-out": words[2], "check-in": words[1] }[words[0]], saidNo(answer));
+    const problem = this.problemOf(words, answer);
+    this.stop(problem, shownWords(words));
+    if (answer.refusal) await this.tellWhere({ "check-out": words[2], "check-in": words[1] }[words[0]], problem);
     return answer.fault || answer.strange ? "again" : "stop";
+  }
+
+  // What an answer that is no reply says of words; of an amount above what the patron at the desk owes, with what that is.
+  problemOf(words, answer) {
+    const page = this.visit?.page;
+    const isAbove = answer.refusal === 60 && page?.patron === Number(words[1]) && Number(words[2]) > page.owed;
+    return isAbove ? say(TEXTS.moreThanOwed, { owed: amount(page.owed) }) : saidNo(answer, words);
   }
 
   // Tells which title a refused copy is of, where it is and for whom.
@@ -165,7 +200,7 @@ export class Service {
   }
 
   labelled(problem) {
-    return this.label === "" ? problem : say(TEXTS.ofTitle, { text: this.label, told: problem });
+    return this.label === "" ? problem : say(TEXTS.ofLabel, { label: this.label, told: problem });
   }
 
   stop(problem, what) {

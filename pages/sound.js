@@ -1,4 +1,4 @@
-// The sound of a refusal, which can be switched off; the choice stays with the browser.
+// The sounds of a refusal and of a copy that wants more than its shelf, which can be switched off; the choice stays with the browser.
 
 const OFF = "circ.sound";
 let context = null;
@@ -12,16 +12,26 @@ export function switchSound(isOn) {
   else localStorage.setItem(OFF, "off");
 }
 
-// Two low notes; a browser that gives no sound says nothing.
-export function soundAlarm() {
+// Plays notes one after another, each with when it begins, in seconds; a browser that gives no sound says nothing.
+function play(notes, type) {
   if (!isSoundOn() || !window.AudioContext) return;
   context ??= new AudioContext();
-  for (const begin of [0, 0.25]) {
+  for (const [begin, hertz] of notes) {
     const note = context.createOscillator();
-    note.type = "square";
-    note.frequency.value = 220;
+    note.type = type;
+    note.frequency.value = hertz;
     note.connect(context.destination);
     note.start(context.currentTime + begin);
     note.stop(context.currentTime + begin + 0.18);
   }
+}
+
+// Two low notes.
+export function soundAlarm() {
+  play([[0, 220], [0.25, 220]], "square");
+}
+
+// Two high notes, of which the second is higher.
+export function soundChime() {
+  play([[0, 660], [0.2, 880]], "sine");
 }
