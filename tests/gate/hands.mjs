@@ -2,10 +2,15 @@
 import { deepStrictEqual as same } from "node:assert";
 import { askUntilAnswered } from "../../pages/asking.js";
 import { once } from "../../pages/clicks.js";
+import { COMMANDS, QUESTIONS } from "../../pages/commands.js";
 import { today } from "../../pages/days.js";
+import { plain } from "../../pages/isolating.js";
+import { LeftBehind, openTabs } from "../../pages/left_behind.js";
+import { LibraryDay } from "../../pages/library_day.js";
+import { Papers } from "../../pages/papers.js";
 import { receiptHead, receiptRow } from "../../pages/receipt.js";
 import { labelOf } from "../../pages/saying.js";
-import { beginsScan, cut, endsScan, itemOf, needsConfirming, scansIn } from "../../pages/scans.js";
+import { beginsScan, cut, endsScan, itemOf, needsConfirming, scansIn, wanted } from "../../pages/scans.js";
 import { slipLines } from "../../pages/slips.js";
 import { SignedIn } from "../../pages/signed_in.js";
 import { TEXTS } from "../../pages/texts.js";
@@ -36,24 +41,28 @@ function turns(acts, asked = {}) {
 }
 
 // A desk of branch 1 in a tab, and what its screen was told.
-function desk(storage = new Kept()) {
+function desk(storage = new Kept(), day = { now: dayOf, look: async () => {}, begun() {} }, kept = () => {}) {
   const leaving = new AbortController();
-  const told = [], noted = [], receipts = [], slips = [];
-  let unknown = 0, waiting = [], wanted = null;
+  const told = [], noted = [], receipts = [], slips = [], special = [];
+  let unknown = 0, waiting = [], wanted = null, shown = null;
   const ask = (words, requestKey, text) => askUntilAnswered(
     { method: "POST", path: "/desk", keyField: "Desk-Key", keyValue: "deskkey00001", requestKey, body: JSON.stringify(words) },
-    () => { unknown += 1; told.push([text, true]); }, { signal: leaving.signal, pauses: [1] });
+    () => { unknown += 1; told.push([plain(text), true]); }, { signal: leaving.signal, pauses: [1] });
   const screen = {
-    told: (text, isWrong = false) => told.push([text, isWrong]),
-    toldMore: (text) => told.push([text, true]),
-    noted: (what, text) => noted.push(`${what}: ${text}`),
-    waiting: (queue) => { waiting = queue.waiting.map(labelOf); },
+    told: (text, isWrong = false, isSpecial = false) => {
+      told.push([plain(text), isWrong]);
+      if (isSpecial) special.push(plain(text));
+    },
+    toldMore: (text) => told.push([plain(text), true]),
+    noted: (what, text) => noted.push(plain(`${what}: ${text}`)),
+    waiting: (queue) => { waiting = queue.waiting.map(labelOf).map(plain); },
     wanted: (patron) => { wanted = patron; },
-    slip: (slip) => slips.push(slipLines(slip)),
-    visit: (visit) => receipts.push([receiptHead(visit.receipt), ...visit.receipt.rows]),
+    slip: (slip) => slips.push(slipLines(slip).map(plain)),
+    visit: (visit) => { shown = visit; if (visit) receipts.push([receiptHead(visit.receipt), ...visit.receipt.rows].map(plain)); },
+    nobody: () => { noted.length = 0; },
   };
-  const work = new Work({ branch: "1", ask, screen, storage });
-  return { work, told, noted, receipts, slips, storage, leaving, unknown: () => unknown, waiting: () => waiting, wanted: () => wanted };
+  const work = new Work({ branch: "1", ask, screen, storage, day, kept });
+  return { work, told, noted, receipts, slips, special, storage, leaving, unknown: () => unknown, waiting: () => waiting, wanted: () => wanted, shown: () => shown };
 }
 
 async function until(holds) {
@@ -66,8 +75,8 @@ async function until(holds) {
 
 const isQuiet = ({ work: { queue } }) => queue.current === null && (queue.isStopped || queue.waiting.length === 0);
 const bodies = (sent) => sent.map(([, , , body]) => JSON.parse(body).join(" "));
-const acts = (sent) => bodies(sent).filter((words) => !/^(page|copy|shelf) /.test(words));
-const keysOf = (sent) => sent.filter(([, , , body]) => !/^\["(page|copy|shelf)"/.test(body)).map(([, key]) => key);
+const acts = (sent) => bodies(sent).filter((words) => !/^(page|copy|shelf|loans|borrower) /.test(words));
+const keysOf = (sent) => sent.filter(([, , , body]) => !/^\["(page|copy|shelf|loans|borrower)"/.test(body)).map(([, key]) => key);
 const dayOf = today();
 
 // ---- a card and two copies, before the first answer comes: three requests, in order, none glued to another
@@ -81,7 +90,7 @@ await until(() => isQuiet(it));
 is(bodies(sent), ["page 4", "check-out 4 31 1", "page 4", "check-out 4 32 1", "page 4"]);
 is(new Set(sent.map(([, key]) => key)).size, 5);
 is([it.unknown(), it.waiting(), it.work.queue.isStopped], [0, [], false]);
-is(it.receipts.at(-1), [`Di Eck, ${dayOf}, branch 1`, "Maps, Old and New, due on 2026-03-09", "Winter Bees, due on 2026-03-16"]);
+is(it.receipts.at(-1), [`Di Eck, ${dayOf}, branch 1`, "Maps, Old and New, due 2026-03-09", "Winter Bees, due 2026-03-16"]);
 
 // ---- fifty scans at once, over a network that loses answers, cuts them off and tells 502: each is done once, in its order
 let lost = 0;
@@ -108,7 +117,7 @@ is(acts(sent), ["check-in 10 1", "check-in 1 1", "check-in 1 1"]);
 is(new Set(keysOf(sent)).size, 3);
 
 // ---- a refusal stops the queue, and says so; what waits is sent on, or thrown away
-for (const [answer, text] of [[refusal(36), "Refused (36): another patron stands in line. Any: On the shelf, branch 1."], [[5, 400, '{"status":400}'], "The desk did not take this (status 400)."]]) {
+for (const [answer, text] of [[refusal(36), "Another patron is waiting for this title. Any: On the shelf, branch 1."], [[5, 400, '{"status":400}'], "The desk did not take this (status 400)."]]) {
   sent = network(turns([answer, ...[1, 2, 3].map((loan) => reply(`loan ${loan} due 2026-03-09`))], { "page 4": page(4, "Di Eck") }));
   it = desk();
   for (const scan of ["4", "31", "32", "33"]) it.work.scan("check-out", scan);
@@ -214,7 +223,7 @@ sent = network([refusal(17), reply("ok")]);
 it = desk();
 it.work.words(["patron", "7", "1", "cardkey00007", "Gil Hay"]);
 await until(() => isQuiet(it));
-is([it.work.queue.isStopped, it.noted], [false, ["patron 7 1 … Gil Hay: Refused (17): unknown kind of patron."]]);
+is([it.work.queue.isStopped, it.noted], [false, ["patron 7 1 … Gil Hay: There is no such kind of patron."]]);
 sent = network(turns([refusal(14), reply("fine 0 shelf 1")]));
 it.work.words(["renew", "9"]);
 it.work.scan("check-in", "1");
@@ -235,7 +244,7 @@ is([acts(sent), later.told.at(-1)], [["check-in 1 1"], [TEXTS.cardKeyNotKept, tr
 is(["10", "10\r\n", "10\r\n20\t30\n", "\r\n", " 10 "].map(scansIn), [["10"], ["10"], ["10", "20", "30"], [], ["10"]]);
 is([[{ key: "Tab" }, "10"], [{ key: "Tab" }, ""], [{ key: "Tab", shiftKey: true }, "10"], [{ key: "j", ctrlKey: true }, ""], [{ key: "J", ctrlKey: true }, "1"], [{ key: "m", ctrlKey: true }, "1"],
   [{ key: "j" }, "1"], [{ key: "1" }, "1"]].map(([key, text]) => Boolean(endsScan(key, text))), [true, false, false, true, true, true, false, false]);
-is([{ key: "1" }, { key: "P" }, { key: " " }, { key: "Enter" }, { key: "2", altKey: true }, { key: "c", ctrlKey: true }].map(beginsScan), [true, true, false, false, false, false]);
+is([{ key: "1" }, { key: "P" }, { key: " " }, { key: "Enter" }, { key: "2", altKey: true }, { key: "c", ctrlKey: true }, { key: "Unidentified" }].map(beginsScan), [true, true, false, false, false, false, true]);
 is(["P4", "p4", "C31", "31", "X31"].map((text) => cut(text)), [{ of: "patron", number: "4" }, { of: "patron", number: "4" }, { of: "copy", number: "31" }, { of: null, number: "31" }, { of: null, number: "X31" }]);
 is(["LIB4", "L31", "P4"].map((text) => cut(text, { patron: "LIB", copy: "L" }).of), ["patron", "copy", null]);
 is(cut("P4", { patron: "", copy: "" }), { of: null, number: "P4" });
@@ -260,7 +269,7 @@ sent = network(turns([reply("owed 0")], { "page 4": page(4, "Di Eck") }));
 it = desk();
 for (const scan of ["4", "50.00", "50.01", "0.20"]) it.work.scan("pay", scan);
 await until(() => isQuiet(it));
-is([acts(sent), it.told.at(-1), it.waiting()], [["pay 4 5000"], ["Does patron 4 pay 50.01? If not, go on without it.", true], ["0.20 paid, patron 4"]]);
+is([acts(sent), it.told.at(-1), it.waiting()], [["pay 4 5000"], ["Take 50.01 from Di Eck?", true], ["0.20 paid, patron 4"]]);
 it.work.queue.sendAgain();
 await until(() => isQuiet(it));
 is(acts(sent), ["pay 4 5000", "pay 4 5001", "pay 4 20"]);
@@ -318,22 +327,65 @@ const roads = (place) => `copy 20 home 2 kind 1 price 1200 title 200 Salt Roads\
 const comesIn = [
   ["fine 0 ready 1 at 1 until 2026-03-07", "ready 1 at 1 until 2026-03-07 patron 2 Bo Carr", "Salt Roads: Ready for Bo Carr, hold 1, at branch 1 until 2026-03-07. No fine.",
     ["Ready at branch 1 until 2026-03-07", "Hold 1, Bo Carr", "Salt Roads", "Copy 20"]],
-  ["fine 100 transit 2 for 3", "transit 2 for 3 patron 3 Cy Dunn", "Salt Roads: In transit to branch 2, for Cy Dunn, hold 3. Fine: 1.00.", ["To branch 2", "Hold 3, Cy Dunn", "Salt Roads", "Copy 20"]],
+  ["fine 100 transit 2 for 3", "transit 2 for 3 patron 3 Cy Dunn", "Salt Roads: In transit to branch 2, for Cy Dunn, hold 3. Fine: 1.00. Bo Carr owes 1.30 now.", ["To branch 2", "Hold 3, Cy Dunn", "Salt Roads", "Copy 20"]],
   ["fine 0 transit 2", "transit 2", "Salt Roads: In transit to branch 2. No fine.", ["To branch 2", "Salt Roads", "Copy 20"]],
   ["fine 0 shelf 1", "shelf 1", "Salt Roads: To the shelf, branch 1. No fine.", null],
+  ["fine 20 shelf 1", "shelf 1", "Salt Roads: To the shelf, branch 1. Fine: 0.20. Bo Carr owes 1.30 now.", null],
   // moved meanwhile by another desk: nobody is named
   ["fine 0 ready 1 at 1 until 2026-03-07", "loan 4 due 2026-03-16 patron 2 Bo Carr", "Salt Roads: Ready for hold 1 at branch 1 until 2026-03-07. No fine.",
     ["Ready at branch 1 until 2026-03-07", "Hold 1", "Salt Roads", "Copy 20"]],
 ];
+// the last of a copy's loans, in the second part of their list, tells who owes its fine
+const many = Array.from({ length: 100 }, (_, at) => `loan ${at + 1} patron 3 made 2026-03-02 due 2026-03-09 ended 2026-03-03`);
+const debtor = { "loans 20 0": [...many, "after 100"].join("\n"), "loans 20 100": "loan 101 patron 2 made 2026-03-10 due 2026-03-17 ended 2026-03-19\nend", "borrower 2": "patron 2 owed 130 name Bo Carr\nkind 1" };
 for (const [answer, place, text, slip] of comesIn) {
-  sent = network(turns([reply(answer)], { "copy 20": roads(place) }));
+  sent = network(turns([reply(answer)], { "copy 20": roads(place), ...debtor }));
   it = desk();
   it.work.scan("check-in", "20");
   await until(() => isQuiet(it));
-  is([bodies(sent), it.told.at(-1), it.slips], [["check-in 20 1", "copy 20"], [text, false], slip ? [slip] : []]);
+  const isFined = !answer.startsWith("fine 0 ");
+  is([bodies(sent), it.told.at(-1), it.slips], [["check-in 20 1", "copy 20", ...(isFined ? ["loans 20 0", "loans 20 100", "borrower 2"] : [])], [text, false], slip ? [slip] : []]);
+  // it looks and sounds unlike a plain return
+  is(it.special, slip || isFined ? [text] : []);
 }
+// a hold that leaves the hold shelf gives its copy to the next one, and that has a slip, too
+const shelfRow = "      hold    copy  patron until      title\n         7      20       1 2026-03-07 Salt Roads\nend";
+for (const [words, answer, place, text, slip] of [
+  [["unshelve", "7"], "ready 9 at 1 until 2026-03-12", "ready 9 at 1 until 2026-03-12 patron 3 Cy Dunn", "Salt Roads: Ready for Cy Dunn, hold 9, at branch 1 until 2026-03-12.",
+    [["Ready at branch 1 until 2026-03-12", "Hold 9, Cy Dunn", "Salt Roads", "Copy 20"]]],
+  [["unshelve-cancelled", "7"], "transit 2", "transit 2", "Salt Roads: In transit to branch 2.", [["To branch 2", "Salt Roads", "Copy 20"]]],
+  [["unshelve", "7"], "shelf 1", "shelf 1", "Salt Roads: To the shelf, branch 1.", []],
+]) {
+  sent = network(turns([reply(answer)], { "shelf 1 6": shelfRow, "copy 20": roads(place) }));
+  it = desk();
+  it.work.words(words);
+  await until(() => isQuiet(it));
+  is([bodies(sent), it.told.at(-1), it.slips], [["shelf 1 6", words.join(" "), "copy 20"], [text, false], slip]);
+}
+// where it isn't on the shelf of this branch no copy is asked for
+sent = network(turns([reply("ready 9 at 2 until 2026-03-12")], { "shelf 1 6": "      hold    copy  patron until      title\n         8      30       1 2026-03-07 Any\nend" }));
+it = desk();
+it.work.words(["unshelve", "7"]);
+await until(() => isQuiet(it));
+is([bodies(sent), it.told.at(-1), it.slips], [["shelf 1 6", "unshelve 7"], ["Ready for hold 9 at branch 2 until 2026-03-12.", false], []]);
+// slips and the newest notes are kept for a tab that is loaded anew, until they are cleared
+const kept = new Kept();
+const papers = new Papers(kept, 2);
+for (const slip of [{ copy: 20 }, { copy: 11 }]) papers.addSlip(slip);
+for (const at of [1, 2, 3]) papers.addNote(`check-in ${at} 1`, "Done.", []);
+is([new Papers(kept, 2).slips, new Papers(kept, 2).notes], [[{ copy: 20 }, { copy: 11 }], [["check-in 2 1", "Done.", []], ["check-in 3 1", "Done.", []]]]);
+papers.clearSlips();
+is([new Papers(kept, 2).slips.length, new Papers(kept, 2).notes.length], [0, 2]);
+papers.clearNotes();
+is([new Papers(kept, 2).slips.length, new Papers(kept, 2).notes.length], [0, 0]);
+// who owes a fine that can't be asked for is told as missing, and nothing waits for it
+sent = network(turns([reply("fine 20 shelf 1")], { "copy 20": roads("shelf 1"), "loans 20": refusal(81) }));
+it = desk();
+it.work.scan("check-in", "20");
+await until(() => isQuiet(it));
+is(it.told.at(-1), ["copy 20: Salt Roads: To the shelf, branch 1. Fine: 0.20. The desk's other answers did not come.", true]);
 const bo = page(2, "Bo Carr", "loan 2 due 2026-03-09 renewals 0 title 200 Salt Roads", "hold 5 at 2 waiting title 300 Maps, Old and New");
-sent = network(turns([reply("loan 2 due 2026-03-09"), reply("hold 5"), reply("owed 40"), reply("fine 0 price 1200")], { "page 2": bo, "copy 20": roads("missing") }));
+sent = network(turns([reply("loan 2 due 2026-03-09"), reply("hold 5"), reply("owed 40"), reply("fine 0 price 1200")], { "page 2": bo, "copy 20": roads("missing"), ...debtor, "borrower 2": "patron 2 owed 1240 name Bo Carr\nkind 1" }));
 it = desk();
 it.work.scan("check-out", "2");
 it.work.scan("check-out", "20");
@@ -341,15 +393,36 @@ it.work.scan("place-hold", "300");
 it.work.scan("pay", "0.60");
 it.work.words(["missing", "20"]);
 await until(() => isQuiet(it));
-is(it.noted, ["page 2: Patron 2, Bo Carr: 1 on loan, 1 on hold, owes 0.00.", "check-out 2 20 1: Salt Roads: Loan 2, due on 2026-03-09. For Bo Carr.",
-  "place-hold 2 300 1: Maps, Old and New: Hold 5 is placed. For Bo Carr.", "pay 2 60: Still owed: 0.40. For Bo Carr.", "missing 20: Salt Roads: Fine 0.00, price 12.00."]);
+is(it.noted, ["page 2: Patron 2, Bo Carr: 1 on loan, 1 on hold, owes 0.00.", "check-out 2 20 1: Salt Roads lent to Bo Carr, due 2026-03-09.",
+  "place-hold 2 300 1: Hold 5 on Maps, Old and New is placed for Bo Carr.", "pay 2 0.60: Bo Carr still owes 0.40.", "missing 20: Salt Roads: Fine 0.00, price 12.00. Bo Carr owes 12.40 now."]);
+
+// ---- what is refused is told by the words that were sent, and an amount by what is owed
+const owing = "patron 2 owed 40 name Bo Carr";
+for (const [words, number, text] of [
+  [["pay", "2", "60"], 60, "That is more than is owed (0.40)."],
+  [["waive", "2", "60"], 60, "That is more than is owed (0.40)."],
+  [["pay", "2", "0"], 60, "That is nothing, or more than is owed."],
+  [["pay", "3", "60"], 60, "That is nothing, or more than is owed."],
+  [["cancel-hold", "5"], 53, "This hold is already on the shelf, or has ended."],
+  [["unshelve", "5"], 53, "This hold is not on the shelf, or has ended."],
+  [["unshelve-cancelled", "5"], 53, "This hold is not on the shelf, or has ended."],
+  [["branch", "2", "5", "Harbour"], 81, "The key is wrong, or may not do this."],
+]) {
+  sent = network(turns([refusal(number)], { "page 2": owing }));
+  it = desk();
+  it.work.scan("check-out", "2");
+  await until(() => isQuiet(it));
+  it.work.words(words);
+  await until(() => isQuiet(it));
+  is(it.told.at(-1), [text, true]);
+}
 
 // ---- of a refused copy it is told where it is, and for whom; where that can't be had the refusal stands alone
 for (const [scan, number, asked, text] of [
-  [["check-out", "20"], 33, roads("ready 1 at 1 until 2026-03-07 patron 3 Cy Dunn"), "copy 20, patron 2: Refused (33): the copy is on the hold shelf. Salt Roads: Ready for Cy Dunn, hold 1, at branch 1 until 2026-03-07."],
-  [["check-in", "20"], 33, roads("ready 1 at 1 until 2026-03-07 patron 3 Cy Dunn"), "copy 20: Refused (33): the copy is on the hold shelf. Salt Roads: Ready for Cy Dunn, hold 1, at branch 1 until 2026-03-07."],
-  [["check-out", "20"], 31, roads("loan 4 due 2026-03-16 patron 1 Ann Bell"), "copy 20, patron 2: Refused (31): the copy is on loan. Salt Roads: Loan 4 of Ann Bell, due on 2026-03-16."],
-  [["check-in", "20"], 13, refusal(13), "copy 20: Refused (13): unknown copy."],
+  [["check-out", "20"], 33, roads("ready 1 at 1 until 2026-03-07 patron 3 Cy Dunn"), "copy 20, patron 2: The copy is on the hold shelf. Salt Roads: Ready for Cy Dunn, hold 1, at branch 1 until 2026-03-07."],
+  [["check-in", "20"], 33, roads("ready 1 at 1 until 2026-03-07 patron 3 Cy Dunn"), "copy 20: The copy is on the hold shelf. Salt Roads: Ready for Cy Dunn, hold 1, at branch 1 until 2026-03-07."],
+  [["check-out", "20"], 31, roads("loan 4 due 2026-03-16 patron 1 Ann Bell"), "copy 20, patron 2: The copy is on loan. Salt Roads: On loan to Ann Bell, due 2026-03-16."],
+  [["check-in", "20"], 13, refusal(13), "copy 20: There is no such copy."],
 ]) {
   sent = network(turns([refusal(number)], { "page 2": bo, "copy 20": asked }));
   it = desk();
@@ -365,15 +438,15 @@ it = desk();
 it.work.scan("check-out", "2");
 it.work.scan("renew", "C20");
 await until(() => isQuiet(it));
-is([bodies(sent), it.told.at(-1)], [["page 2", "copy 20", "renew 2", "page 2"], ["Salt Roads: Loan 2, due on 2026-03-16. For Bo Carr.", false]]);
-is(it.receipts.at(-1).slice(1), ["Salt Roads, renewed, due on 2026-03-16"]);
+is([bodies(sent), it.told.at(-1)], [["page 2", "copy 20", "renew 2", "page 2"], ["Salt Roads renewed for Bo Carr, due 2026-03-16.", false]]);
+is(it.receipts.at(-1).slice(1), ["Salt Roads, renewed, due 2026-03-16"]);
 sent = network(turns([fault(90), reply("loan 2 due 2026-03-16")], { "copy 20": roads("loan 2 due 2026-03-09 patron 2 Bo Carr") }));
 it = desk();
 it.work.scan("renew", "20");
 await until(() => isQuiet(it));
 it.work.queue.sendAgain();
 await until(() => isQuiet(it));
-is([acts(sent), new Set(keysOf(sent)).size, it.told.at(-1)], [["renew 2", "renew 2"], 1, ["Salt Roads: Loan 2, due on 2026-03-16. For Bo Carr.", false]]);
+is([acts(sent), new Set(keysOf(sent)).size, it.told.at(-1)], [["renew 2", "renew 2"], 1, ["Salt Roads renewed for Bo Carr, due 2026-03-16.", false]]);
 sent = network(turns([], { "copy 20": roads("shelf 2") }));
 it = desk();
 it.work.scan("renew", "20");
@@ -396,7 +469,7 @@ it.work.scan("check-out", "2");
 it.work.scan("check-out", "20");
 await until(() => isQuiet(it));
 const back = desk(it.storage);
-is([back.work.expected, back.work.service.visit.receipt.rows], [2, ["Salt Roads, due on 2026-03-09"]]);
+is([back.work.expected, back.work.service.visit.receipt.rows.map(plain)], [2, ["Salt Roads, due 2026-03-09"]]);
 sent = network(turns([reply("fine 0 shelf 1")], { "copy 20": [60_000] }));
 back.work.scan("check-in", "20");
 await until(() => sent.length === 2);
@@ -405,6 +478,115 @@ back.leaving.abort();
 back.work.end();
 await new Promise((done) => setTimeout(done, 5));
 is([back.told.length, back.storage.all.size], [toldBefore, 0]);
+
+// ---- a tab that is loaded anew has the mode and the patron that were there: nobody after Next patron, in Check-in or after a card that was refused
+sent = network(turns([reply("owed 0")], { "page 2": bo, "page 9": refusal(11) }));
+for (const [does, mode, patron, wantedNext] of [
+  [(tab) => tab.work.choose("pay"), "pay", 2, "amount"],
+  [(tab) => tab.work.choose("renew"), "renew", 2, "copy"],
+  [(tab) => tab.work.nextPatron(), "check-out", null, "patron"],
+  [(tab) => { tab.work.choose("place-hold"); tab.work.nextPatron(); }, "place-hold", null, "patron"],
+  [(tab) => tab.work.choose("check-in"), "check-in", null, "copy"],
+  [(tab) => { tab.work.nextPatron(); tab.work.scan("check-out", "9"); }, "check-out", null, "patron"],
+]) {
+  it = desk();
+  it.work.scan("check-out", "2");
+  await until(() => isQuiet(it));
+  does(it);
+  await until(() => isQuiet(it));
+  const { turn, expected } = desk(it.storage).work;
+  is([turn.mode, expected, wanted(turn.mode, expected)], [mode, patron, wantedNext]);
+}
+// ---- nothing of a patron stays once the next one is wanted, nor what is answered of them later, but for a refusal
+const whole = (tab) => JSON.stringify([tab.shown(), tab.noted, tab.told.at(-1), ...tab.storage.all]);
+for (const end of [(tab) => tab.work.nextPatron(), (tab) => tab.work.choose("check-in")]) {
+  sent = network(turns([reply("loan 2 due 2026-03-09")], { "page 2": bo }));
+  it = desk();
+  for (const scan of ["2", "20"]) it.work.scan("check-out", scan);
+  await until(() => isQuiet(it));
+  is([it.shown().page.name, it.noted.length], ["Bo Carr", 2]);
+  end(it);
+  is([it.shown(), it.noted, it.told.at(-1), whole(it).includes("Bo Carr")], [null, [], ["", false], false]);
+  // as fast as hands are, the answers come later
+  it = desk();
+  for (const scan of ["2", "20"]) it.work.scan("check-out", scan);
+  end(it);
+  await until(() => isQuiet(it));
+  is([acts(sent).at(-1), it.shown(), whole(it).includes("Bo Carr")], ["check-out 2 20 1", null, false]);
+}
+sent = network(turns([refusal(36)], { "page 2": bo, "page 4": page(4, "Di Eck") }));
+it = desk();
+for (const scan of ["2", "20"]) it.work.scan("check-out", scan);
+it.work.nextPatron();
+await until(() => isQuiet(it));
+is([it.shown(), it.told.at(-1), it.work.queue.isStopped], [null, ["copy 20, patron 2: Another patron is waiting for this title. Any: On the shelf, branch 1.", true], true]);
+it.work.queue.sendOn();
+it.work.scan("check-out", "4");
+await until(() => isQuiet(it));
+is([it.shown().page.name, whole(it).includes("Bo Carr")], ["Di Eck", false]);
+// a refusal of the last scan goes with its patron once the clerk can have seen it, and the next card is sent; where something waits it stays
+for (const [pause, waits, stays] of [[0, [], true], [650, [], false], [650, ["21"], true]]) {
+  sent = network(turns([refusal(36)], { "page 2": bo, "page 4": page(4, "Di Eck") }));
+  it = desk();
+  for (const scan of ["2", "20", ...waits]) it.work.scan("check-out", scan);
+  await until(() => isQuiet(it) && it.told.at(-1)[0].startsWith("copy 20, patron 2: Another patron is waiting for this title. Any:"));
+  await new Promise((done) => setTimeout(done, pause));
+  it.work.nextPatron();
+  it.work.scan("check-out", "4");
+  await until(() => isQuiet(it));
+  is([it.work.queue.isStopped, bodies(sent).includes("page 4"), it.told.at(-1)[0].startsWith("copy 20")], [stays, !stays, stays]);
+  it.work.sendOn();
+  await until(() => isQuiet(it));
+  if (waits.length === 0) is([it.shown().page.name, whole(it).includes("Bo Carr")], ["Di Eck", false]);
+}
+// a look-up that fails shows nobody; where it is sent again and comes, it is that patron's turn
+for (const [answer, patron] of [[refusal(11), null], [fault(91), 4], [[5, 403, "<html>"], 4]]) {
+  sent = network(turns([answer, reply(page(4, "Di Eck"))], { "page 2": bo }));
+  it = desk();
+  it.work.scan("check-out", "2");
+  await until(() => isQuiet(it));
+  it.work.nextPatron();
+  it.work.scan("check-out", "4");
+  await until(() => isQuiet(it));
+  is([it.shown(), it.work.expected, whole(it).includes("Bo Carr")], [null, patron, false]);
+  if (patron === null) continue;
+  it.work.queue.sendAgain();
+  await until(() => isQuiet(it));
+  is([it.shown().page.name, it.work.expected], ["Di Eck", 4]);
+}
+// also while its page is still being asked for
+sent = network([[60_000]]);
+it = desk();
+it.work.scan("check-out", "2");
+is(desk(it.storage).work.expected, 2);
+
+// ---- a receipt has the library's day, whatever that of the machine, also where it is told late; it moves only forward, and by `begin-day` at once
+const answersOfDay = [];
+let timesShown = 0;
+const library = new LibraryDay((words) => { is(words, ["today"]); return new Promise((done) => { answersOfDay.push(done); }); }, () => { timesShown += 1; });
+sent = network(turns([reply("ok")], { "page 2": bo, "page 4": page(4, "Di Eck") }));
+it = desk(new Kept(), library);
+it.work.scan("check-out", "2");
+await until(() => isQuiet(it));
+is([it.receipts.at(-1), library.now, answersOfDay.length], [["Bo Carr, …, branch 1"], null, 1]);
+library.look();
+is(answersOfDay.length, 1);
+answersOfDay[0]({ reply: { kind: "day", day: "2026-03-02" } });
+await until(() => timesShown === 1);
+await until(() => it.receipts.at(-1)[0] === "Bo Carr, 2026-03-02, branch 1");
+it.work.words(["begin-day", dayOf]);
+await until(() => isQuiet(it));
+is([library.now, it.receipts.at(-1)], [dayOf, ["Bo Carr, 2026-03-02, branch 1"]]);
+it.work.nextPatron();
+it.work.scan("check-out", "4");
+await until(() => isQuiet(it));
+answersOfDay[1]({ reply: { kind: "day", day: "2026-03-02" } });
+await until(() => library.asking === null);
+is([library.now, it.receipts.at(-1), desk(it.storage).work.service.visit.receipt.day], [dayOf, [`Di Eck, ${dayOf}, branch 1`], dayOf]);
+library.look();
+answersOfDay[2]({ refusal: 81 });
+await until(() => library.asking === null);
+is(library.now, dayOf);
 
 // ---- a receipt is its patron's alone: what is done for others, or asked, isn't on it, nor a card key
 const ann = page(1, "Ann Bell", "loan 1 due 2026-03-09 renewals 0 title 100 Rivers of the North", "hold 7 at 2 waiting title 200 Salt Roads", "hold 8 at 1 waiting from 2026-04-01 title 400 Winter Bees");
@@ -418,7 +600,7 @@ for (const words of ["renew 1", "renew 9", "pay 1 250", "waive 1 40", "place-hol
 it.work.words(["page", "2"]);
 it.work.words(["patron", "2", "1", "cardkey00002", "Bo Carr"]);
 await until(() => isQuiet(it));
-is(it.receipts.at(-1), [`Ann Bell, ${dayOf}, branch 1`, "Rivers of the North, renewed, due on 2026-03-09", "Paid 2.50, still owed 0.40",
+is(it.receipts.at(-1), [`Ann Bell, ${dayOf}, branch 1`, "Rivers of the North, renewed, due 2026-03-09", "Paid 2.50, still owed 0.40",
   "Salt Roads, hold 7, to be picked up at branch 2", "Winter Bees, hold 8 from 2026-04-01, to be picked up at branch 1"]);
 is(JSON.stringify([it.receipts, it.noted, it.told]).includes("cardkey"), false);
 // a card that is scanned again begins another receipt
@@ -426,7 +608,7 @@ it.work.nextPatron();
 it.work.scan("check-out", "2");
 await until(() => isQuiet(it));
 is(it.receipts.at(-1), [`Bo Carr, ${dayOf}, branch 1`]);
-// ---- after a correction the page of the patron at the desk is asked for if it may show another title or name, and a copy is looked at; a new card key is told nowhere
+// ---- after a correction the page of the patron at the desk is asked for, and a copy is looked at; a new card key is told nowhere
 sent = network(turns([reply("ok")], { "page 1": ann }));
 it = desk();
 it.work.scan("check-out", "1");
@@ -435,10 +617,51 @@ for (const words of [["amend-title", "100", "Rivers"], ["amend-title", "400", "B
   it.work.words(words);
 }
 await until(() => isQuiet(it));
-is(bodies(sent), ["page 1", "amend-title 100 Rivers", "page 1", "amend-title 400 Bees", "page 1", "amend-title 300 Maps", "amend-patron 1 1 Ann Özil", "page 1", "card-key 1 newkey000001", "page 1", "amend-patron 2 1 Bo",
-  "card-key 2 newkey000002", "amend-branch 1 5 Main", "amend-copy 10 1 900", "copy 10", "rehome 10 2", "copy 10"]);
+is(bodies(sent), ["page 1", ...["amend-title 100 Rivers", "amend-title 400 Bees", "amend-title 300 Maps", "amend-patron 1 1 Ann Özil", "card-key 1 newkey000001", "amend-patron 2 1 Bo", "card-key 2 newkey000002",
+  "amend-branch 1 5 Main"].flatMap((words) => [words, "page 1"]), "amend-copy 10 1 900", "copy 10", "page 1", "rehome 10 2", "copy 10", "page 1"]);
 is(it.noted.filter((text) => /^card-key|^rehome/.test(text)), ["card-key 1 …: Done. For Ann Bell.", "card-key 2 …: Done.", "rehome 10 2: Any: Done. On the shelf, branch 1."]);
 is(JSON.stringify([it.receipts, it.noted, it.told, ...it.storage.all]).includes("newkey"), false);
+// ---- the panel of the patron is always of now: after each command that does more than ask, typed or scanned, and where its own page was asked for
+const oweing = (owed) => `patron 1 owed ${owed} name Ann Bell\nhold 7 at 2 ready title 200 Salt Roads`;
+for (const name of Object.keys(COMMANDS)) {
+  let owed = 0;
+  const shelved = reply(`${"      hold    copy  patron until      title"}\n         7      20       1 2026-03-07 Salt Roads\nend`);
+  sent = network((body) => {
+    const words = JSON.parse(body);
+    if (words[0] === "page") return reply(oweing(words[1] === "1" ? owed : 9999));
+    if (words[0] === "shelf") return shelved;
+    if (words[0] === "copy") return reply("copy 1 home 1 kind 1 price 100 title 1 Any\nshelf 1");
+    owed += QUESTIONS.includes(words[0]) ? 0 : 1;
+    return reply("ok");
+  });
+  it = desk();
+  it.work.scan("check-out", "1");
+  await until(() => isQuiet(it));
+  const words = [name, ...COMMANDS[name].map((part) => (part === "day" ? dayOf : "1"))];
+  it.work.words(words);
+  await until(() => isQuiet(it));
+  is([it.shown().page.owed, it.shown().untils], [QUESTIONS.includes(name) ? 0 : 1, { 7: "2026-03-07" }]);
+  it.work.words(["page", "1"]);
+  await until(() => isQuiet(it));
+  is([it.shown().page.owed, it.told.at(-1)[1]], [owed, false]);
+}
+// where a copy that is typed in is of the patron at the desk, a hold may become ready: it is asked until when
+sent = network(turns([reply("fine 40 ready 7 at 2 until 2026-03-07")], { "page 1": page(1, "Ann Bell", "loan 1 due 2026-03-09 renewals 1 title 200 Salt Roads") }));
+it = desk();
+it.work.scan("check-out", "1");
+await until(() => isQuiet(it));
+sent = network(turns([reply("fine 40 ready 7 at 2 until 2026-03-07")], { "page 1": oweing(40), "loans 20": "loan 1 patron 1 made 2026-03-02 due 2026-03-09 ended 2026-03-11\nend", "borrower 1": "patron 1 owed 40 name Ann Bell\nkind 1", "shelf 2 6": `      hold    copy  patron until      title\n         7      20       1 2026-03-07 Salt Roads\nend` }));
+it.work.words(["check-in", "20", "2"]);
+await until(() => isQuiet(it));
+is([bodies(sent), it.shown().page.owed, it.shown().untils], [["check-in 20 2", "copy 20", "loans 20 0", "borrower 1", "page 1", "shelf 2 6"], 40, { 7: "2026-03-07" }]);
+// of whoever has left nothing more is asked
+sent = network(turns([reply("fine 0 shelf 1")], { "page 1": page(1, "Ann Bell") }));
+it = desk();
+it.work.scan("check-out", "1");
+it.work.choose("check-in");
+for (const scan of ["20", "21"]) it.work.scan("check-in", scan);
+await until(() => isQuiet(it));
+is(bodies(sent), ["page 1", "check-in 20 1", "copy 20", "check-in 21 1", "copy 21"]);
 // where the page doesn't come, what was lent stands on it all the same, and it is told
 sent = network(turns([reply("loan 1 due 2026-03-09")], { "page 1": page(1, "Ann Bell") }));
 it = desk();
@@ -447,9 +670,54 @@ await until(() => isQuiet(it));
 sent = network(turns([reply("loan 1 due 2026-03-09")], { "page 1": fault(92) }));
 it.work.scan("check-out", "10");
 await until(() => isQuiet(it));
-is(it.receipts.at(-1), [`Ann Bell, ${dayOf}, branch 1`, "Loan 1, due on 2026-03-09."]);
-is(it.told.at(-1), ["copy 10, patron 1: Loan 1, due on 2026-03-09. The desk's other answers did not come.", true]);
+is(it.receipts.at(-1), [`Ann Bell, ${dayOf}, branch 1`, "Loan 1, due 2026-03-09."]);
+is(it.told.at(-1), ["copy 10, patron 1: Loan 1, due 2026-03-09. The desk's other answers did not come.", true]);
 is(receiptRow(1, ["check-out", "2", "10", "1"], { kind: "lent", loan: 1, due: "2026-03-09" }, null), null);
+
+// ---- what waits where a tab is closed is there again at the next sign-in at its branch on this machine, under its keys, and is sent once the clerk says so
+const machine = new Kept();
+const tabOf = (branch, key = "annkey000001") => new LeftBehind(branch, key, new Kept(), machine);
+for (const [acts1, wantedActs] of [[[[60_000]], ["check-in 1 1", "check-in 2 1", "check-in 3 1"]], [[fault(91)], ["check-in 1 1", "check-in 2 1", "check-in 3 1"]], [[refusal(13)], ["check-in 2 1", "check-in 3 1"]]]) {
+  const closedTab = tabOf("1");
+  sent = network(turns(acts1, { "copy 1": refusal(13) }));
+  it = desk(new Kept(), undefined, (items) => closedTab.keep(items));
+  for (const scan of ["1", "2", "3"]) it.work.scan("check-in", scan);
+  it.work.words(["card-key", "2", "newkey000002"]);
+  await until(() => sent.length > 0 && (it.work.queue.isStopped || acts1[0][0] === 60_000));
+  const [firstKey] = keysOf(sent);
+  is([JSON.stringify([...machine.all]).includes("newkey"), machine.length], [false, 1]);
+  it.leaving.abort();
+  it.work.queue.changed = () => {};
+  it.work.queue.keep = () => {};
+  // a tab that is open, another branch and another clerk have nothing of it, and no key is told
+  is([tabOf("1").take([closedTab.tab]), tabOf("2").take([]), tabOf("1", "bokey0000001").take([])], [[], [], []]);
+  is(JSON.stringify([...machine.all]).includes("annkey"), false);
+  const newTab = tabOf("1");
+  it = desk(new Kept(), undefined, (items) => newTab.keep(items));
+  it.work.queue.takeOver(newTab.take([]));
+  is([it.work.queue.isStopped, it.waiting().length, machine.length, tabOf("1").take([newTab.tab])], [true, wantedActs.length + 1, 1, []]);
+  sent = network(turns([reply("fine 0 shelf 1")]));
+  it.work.scan("check-in", "4");
+  is(sent.length, 0);
+  it.work.queue.sendOn();
+  await until(() => isQuiet(it));
+  is([acts(sent), it.told.at(-1), keysOf(sent)[0] === firstKey], [wantedActs, [TEXTS.cardKeyNotKept, true], wantedActs.length === 3]);
+  it.work.queue.throwAway();
+  is([it.work.queue.isEmpty, machine.length], [true, 0]);
+}
+// what a page from before kept has no mark, and is anybody's
+machine.setItem("circ.waiting.before", JSON.stringify({ branch: "1", items: [["check-in", "9", "1"]] }));
+is(tabOf("1", "bokey0000001").take([]), [["check-in", "9", "1"]]);
+// what is closed by its button isn't left behind
+sent = network([[60_000]]);
+const mineTab = tabOf("1");
+it = desk(new Kept(), undefined, (items) => mineTab.keep(items));
+it.work.scan("check-in", "1");
+is(machine.length, 1);
+it.leaving.abort();
+it.work.end();
+is(machine.length, 0);
+is([await openTabs(null), await openTabs({ query: async () => ({ held: [{ name: "circ.waiting.a" }, { name: "b" }] }) })], [[], ["a"]]);
 
 // ---- once the desk is closed nothing more is sent, shown or kept
 sent = network([[60_000]]);

@@ -2,13 +2,32 @@
 import { deepStrictEqual as same } from "node:assert";
 import { readCopy, readList } from "../../pages/questions.js";
 import { readAnswer, readReply, readPage } from "../../pages/replies.js";
-import { daysBetween, today } from "../../pages/days.js";
-import { centsOf, commandBegun, holdBody, isCommand, isKey, isNumber, wordsOf } from "../../pages/commands.js";
+import { daysBetween, isDay, today } from "../../pages/days.js";
+import { QUESTIONS, centsOf, commandBegun, holdBody, isKey, isNumber, readLine, wordsTyped } from "../../pages/commands.js";
 import { Door, newKey } from "../../pages/asking.js";
-import { pageLines, said, saidFully, whereIs, withoutCardKey } from "../../pages/saying.js";
-import { tableOf, wordsOfQuestion } from "../../pages/tables.js";
+import { marked, plain } from "../../pages/isolating.js";
+import { problemOfLine, problemOfWords } from "../../pages/misread.js";
+import * as saying from "../../pages/saying.js";
+import * as tables from "../../pages/tables.js";
+import { csvOf, fileNameOf, sorted, sortedNext } from "../../pages/sheet.js";
 import { TEXTS, amount, branchName, say } from "../../pages/texts.js";
 import { Kept, network } from "../lib/network.mjs";
+
+// what is said and shown, without the marks of names
+const { withoutCardKey } = saying;
+const { expiredHold, headOf, wordsOfQuestion } = tables;
+const said = (reply) => plain(saying.said(reply));
+const saidFully = (...of) => plain(saying.saidFully(...of));
+const whereIs = (place) => plain(saying.whereIs(place));
+const pageLines = (...of) => saying.pageLines(...of).map(plain);
+function tableOf(...of) {
+  const { head, columns, rows } = tables.tableOf(...of);
+  return { head: plain(head), columns, rows: rows.map((cells) => cells.map(plain)) };
+}
+
+// the words of a line that can be read, and whether they are a command
+const wordsOf = (line) => (readLine(line).rest === "" ? readLine(line).words : null);
+const isCommand = (words) => words !== null && problemOfWords(words) === null;
 
 let tried = 0;
 function is(one, other) {
@@ -80,6 +99,10 @@ const asked = [
   "patron 4 owed 0 name Åsa Ångström-Łuć\nafter 4",
   "title 400 2 × 2 Œuvres\nend",
   "after 24996",
+  "branch 1 pickup 5 week ooooooc name Main\nbranch 2 pickup 3 week coooooc name Harbour\nend",
+  "day 2026-03-03\nday 2026-03-10\nafter 20522",
+  "kind 1 loans 5 holds 5 debt 500\nend",
+  "rule 1 1 period 6 renewals 1 rate 20 cap 100 grace 0\nend",
   "end",
 ];
 for (const text of asked) is(readReply(text), { kind: "shown", lines: text.split("\n") });
@@ -90,6 +113,9 @@ is([readReply("today 2026-03-02"), readReply("patron 1 owed 20 name Ann Özil\nk
 is(isCommand(wordsOf("pulls 1 0")), true);
 is(isCommand(wordsOf("pulls 1")), false);
 is(["today", "borrower 1", "find-patrons 0 'bell an'", "card-key 1 newkey000001", "amend-title 100 Rivers"].map((line) => isCommand(wordsOf(line))), Array(5).fill(true));
+is(["branches 0", "closed-days 1 20515", "kinds 0", "rules 1 0", "missing-copies 0", "loans 10 0"].map((line) => isCommand(wordsOf(line))), Array(6).fill(true));
+is(["branches", "closed-days 1", "kinds 0 0", "rules 1", "missing-copies", "loans 10"].map((line) => isCommand(wordsOf(line))), Array(6).fill(false));
+is(["branches", "closed-days", "kinds", "rules", "missing-copies", "loans", "find-titles", "close-day", "missing"].map((name) => QUESTIONS.includes(name)), [true, true, true, true, true, true, true, false, false]);
 is(["today 1", "borrower", "find-patrons 0 bell an", "find-titles 0", "card-key 1"].map((line) => isCommand(wordsOf(line))), Array(5).fill(false));
 is(["copy 1", "copies 1", "cop"].map(commandBegun), ["copy", "copies", null]);
 
@@ -125,6 +151,18 @@ is(rows("debts", "patron 2 owed 1300 name Bo Carr\nend"), [{ patron: 2, owed: 13
 is(readList("find-patrons", "patron 1001 owed 0 name Zoë Sand\npatron 1002 owed 5 name Zoë Sand\nafter 1100"),
   { head: null, rows: [{ patron: 1001, owed: 0, name: "Zoë Sand" }, { patron: 1002, owed: 5, name: "Zoë Sand" }], after: 1100 });
 is(readList("find-titles", "title 400 2 × 2 Œuvres\nend"), { head: null, rows: [{ title: 400, text: "2 × 2 Œuvres" }], after: null });
+is(readList("branches", "branch 1 pickup 5 week ooooooc name Main\nbranch 99 pickup 0 week coooooc name week ooooooo name X\nend"), {
+  head: null, rows: [{ branch: 1, pickup: 5, week: "ooooooc", name: "Main" }, { branch: 99, pickup: 0, week: "coooooc", name: "week ooooooo name X" }], after: null });
+is(readList("closed-days", "day 2026-03-03\nday 2199-12-31\nafter 84005"), { head: null, rows: [{ day: "2026-03-03" }, { day: "2199-12-31" }], after: 84005 });
+is(readList("kinds", "kind 1 loans 5 holds 0 debt 1000000\nend"), { head: null, rows: [{ kind: 1, loans: 5, holds: 0, debt: 1000000 }], after: null });
+is(readList("rules", "rule 1 2 period 12 renewals 1 rate 20 cap 100 grace 3\nend"),
+  { head: null, rows: [{ kind: 1, copyKind: 2, period: 12, renewals: 1, rate: 20, cap: 100, grace: 3 }], after: null });
+is(readList("missing-copies", "copy 20 home 2 title 200 Salt Roads\ncopy 50 home 1 title 400 2 × 2 Œuvres\nafter 50"), {
+  head: null, rows: [{ copy: 20, home: 2, title: 200, text: "Salt Roads" }, { copy: 50, home: 1, title: 400, text: "2 × 2 Œuvres" }], after: 50 });
+is(readList("loans", "loan 1 patron 1 made 2026-03-02 due 2026-03-09 ended 2026-03-03\nloan 2 patron 2 made 2026-03-03 due 2026-03-09\nend"), {
+  head: null, after: null,
+  rows: [{ loan: 1, patron: 1, made: "2026-03-02", due: "2026-03-09", ended: "2026-03-03" }, { loan: 2, patron: 2, made: "2026-03-03", due: "2026-03-09", ended: null }] });
+is(["branches", "closed-days", "kinds", "rules", "missing-copies", "loans"].map((question) => readList(question, "end")), Array(6).fill({ head: null, rows: [], after: null }));
 // a search may go on where it has found nothing yet
 is(["find-patrons", "find-titles"].map((question) => readList(question, "after 24996")), Array(2).fill({ head: null, rows: [], after: 24996 }));
 is(readList("account", "patron 1 owed 40 name Ann Bell\nline 1 2026-03-17 fine 100 loan 1 title 100 Rivers of the North\nline 2 2026-03-17 payment 60\nline 3 2026-03-17 waiver 5\nline 4 2026-03-18 price 5 loan 2 title 200 A\nend"), {
@@ -149,22 +187,43 @@ is(readList("till", "till 2026-03-17\nfines                200\nprices          
   head: { day: "2026-03-17" }, rows: [{ sort: "fines", amount: 200 }, { sort: "prices", amount: 1200 }, { sort: "payments", amount: 1360 }, { sort: "waivers", amount: 40 }], after: null });
 for (const [question, text] of [["pulls", ""], ["pulls", "hold 2 copy 11 title 100 Rivers"], ["pulls", "copy 11 title 100 R\nend"], ["shelf", "end"], ["shelf", "      loan  patron    copy due         late title\nend"],
   ["queue", "end"], ["copies", "title 1 A\ncopy 10 nowhere\nend"], ["account", "end"], ["till", "till 2026-03-17\nfines 1"], ["debts", "after"], ["transits", "title 1 A\nend"], ["find-patrons", "title 1 A\nend"],
-  ["find-titles", "patron 1 owed 0 name A\nend"], ["find-titles", "title 1 A"]]) {
+  ["find-titles", "patron 1 owed 0 name A\nend"], ["find-titles", "title 1 A"],
+  ["branches", "branch 1 pickup 5 week oooooo name Main\nend"], ["branches", "branch 1 pickup 5 week ooooooc name\nend"], ["closed-days", "day 2026-3-3\nend"], ["closed-days", "day 2026-03-03"],
+  ["kinds", "kind 1 loans 5 holds 5\nend"], ["rules", "rule 1 period 6 renewals 1 rate 20 cap 100 grace 0\nend"], ["rules", "rule 1 1 period 6 renewals 1 rate 20 cap 100\nend"],
+  ["missing-copies", "copy 20 title 200 Salt Roads\nend"], ["missing-copies", "copy 20 home 2 title 200 Salt Roads"], ["loans", "loan 1 patron 1 made 2026-03-02\nend"], ["loans", "loan 1 patron 1 made 2026-03-02 due 2026-03-09 ended\nend"]]) {
   is(readList(question, text), null);
 }
 
 // ---- each list as a table
 const table = (question, text) => tableOf(question, readList(question, text));
-is(table("pulls", "hold 2 copy 11 title 100 Rivers of the North\nend"), { head: "To be taken from the shelves", columns: ["Copy", "Title", "Hold"], rows: [["11", "Rivers of the North", "2"]] });
+is(table("pulls", "hold 2 copy 11 title 100 Rivers of the North\nend"), { head: "Pull list", columns: ["Copy", "Title", "Hold"], rows: [["11", "Rivers of the North", "2"]] });
 is(table("shelf", "      hold    copy  patron until      title\n         1      20       2 2026-03-07 Salt Roads\nend"),
   { head: "On the hold shelf", columns: ["Hold", "Copy", "Patron", "Until", "Title"], rows: [["1", "20", "2", "2026-03-07", "Salt Roads"]] });
 is(table("overdue", "      loan  patron    copy due         late title\n         1       3      10 2026-03-09     7 Rivers of the North\nend"),
   { head: "Overdue", columns: ["Loan", "Patron", "Copy", "Due", "Days late", "Title"], rows: [["1", "3", "10", "2026-03-09", "7", "Rivers of the North"]] });
 is(table("transits", "copy 20 for 1 title 200 Salt Roads\ncopy 21 title 300 Maps\nend").rows, [["20", "Salt Roads", "1"], ["21", "Maps", ""]]);
-is(table("debts", "patron 2 owed 1300 name Bo Carr\nend"), { head: "Who owes", columns: ["Patron", "Name", "Owes"], rows: [["2", "Bo Carr", "13.00"]] });
+is(table("debts", "patron 2 owed 1300 name Bo Carr\nend"), { head: "Patrons who owe", columns: ["Patron", "Name", "Owes"], rows: [["2", "Bo Carr", "13.00"]] });
 const found = (question, text) => tableOf(question, { ...readList(question, text), head: { sought: "zoe" } });
 is(found("find-patrons", "patron 1001 owed 5 name Zoë Sand\nend"), { head: "Patrons found by zoe", columns: ["Patron", "Name", "Owes"], rows: [["1001", "Zoë Sand", "0.05"]] });
 is(found("find-titles", "title 300 Zoë\nafter 300"), { head: "Titles found by zoe", columns: ["Title number", "Title"], rows: [["300", "Zoë"]] });
+// what is set: a list is told by what was asked about, and without a row too
+const told = (question, about, text) => tableOf(question, { ...readList(question, text), head: headOf(question, about) });
+is(told("branches", 1, "branch 1 pickup 5 week ooooooc name Main\nbranch 3 pickup 0 week cocococ name Hill\nbranch 4 pickup 60 week ooooooo name Quay\nend"), {
+  head: "Branches", columns: ["Branch", "Name", "Closed on", "Pick-up days"],
+  rows: [["1", "Main", "Sun", "5"], ["3", "Hill", "Mon, Wed, Fri, Sun", "0"], ["4", "Quay", "", "60"]],
+});
+is(told("closed-days", 2, "day 2026-03-03\nday 2026-03-10\nend"), { head: "Days closed singly, branch 2", columns: ["Day"], rows: [["2026-03-03"], ["2026-03-10"]] });
+is(told("closed-days", 1, "end"), { head: "Days closed singly, branch 1", columns: ["Day"], rows: [] });
+is(told("kinds", 1, "kind 1 loans 5 holds 4 debt 505\nend"), { head: "Kinds of patrons", columns: ["Kind", "Loans", "Holds", "May owe"], rows: [["1", "5", "4", "5.05"]] });
+is(told("rules", "2", "rule 2 1 period 28 renewals 2 rate 20 cap 1000 grace 3\nend"), {
+  head: "Rules of patrons of kind 2", columns: ["Kind of copies", "Days", "Renewals", "A day late", "At most", "Grace days"], rows: [["1", "28", "2", "0.20", "10.00", "3"]] });
+is(told("missing-copies", 1, "copy 20 home 2 title 200 Salt Roads\nend"), {
+  head: "Missing copies", columns: ["Copy", "Title", "Title number", "Home"], rows: [["20", "Salt Roads", "200", "branch 2"]] });
+is(told("loans", "10", "loan 1 patron 1 made 2026-03-02 due 2026-03-09 ended 2026-03-03\nloan 2 patron 2 made 2026-03-03 due 2026-03-09\nend"), {
+  head: "Loans of copy 10", columns: ["Loan", "Patron", "Lent", "Due", "Ended"], rows: [["1", "1", "2026-03-02", "2026-03-09", "2026-03-03"], ["2", "2", "2026-03-03", "2026-03-09", ""]] });
+is(told("loans", "11", "end"), { head: "Loans of copy 11", columns: ["Loan", "Patron", "Lent", "Due", "Ended"], rows: [] });
+is([wordsOfQuestion("missing-copies", 1, 20), wordsOfQuestion("loans", "10", 1)], [["missing-copies", 20], ["loans", "10", 1]]);
+is(["pulls", "copies", "find-patrons", "find-titles", "branches", "kinds"].map((question) => headOf(question, "an")), [null, null, { sought: "an" }, { sought: "an" }, null, null]);
 is(table("account", "patron 1 owed 40 name Ann Bell\nline 1 2026-03-17 fine 100 loan 1 title 100 Rivers of the North\nline 2 2026-03-17 payment 60\nend"), {
   head: "Account of Ann Bell, patron 1: owes 0.40", columns: ["Line", "Day", "What", "Amount", "Title"],
   rows: [["1", "2026-03-17", "fine", "1.00", "Rivers of the North"], ["2", "2026-03-17", "payment", "0.60", ""]],
@@ -175,13 +234,32 @@ is(table("queue", "title 100 Rivers of the North\nhold 2 patron 3 at 2\nhold 3 p
   head: "Who waits for Rivers of the North, title 100", columns: ["Hold", "Patron", "Pick-up at", "From"], rows: [["2", "3", "branch 2", ""], ["3", "1", "branch 1", "2026-04-01"]] });
 is(table("copies", "title 100 Rivers of the North\ncopy 10 loan 1 due 2026-03-09\ncopy 11 transit 1 for 1\ncopy 15 missing\nend"), {
   head: "Copies of Rivers of the North, title 100", columns: ["Copy", "Where"],
-  rows: [["10", "Loan 1, due on 2026-03-09."], ["11", "In transit to branch 1, for hold 1."], ["15", "Missing."]],
+  rows: [["10", "Loan 1, due 2026-03-09."], ["11", "In transit to branch 1, for hold 1."], ["15", "Missing."]],
 });
 is(places7.map(([text]) => whereIs(readCopy(`copy 10 home 1 kind 2 price 2500 title 100 R\n${text}`).place)), ["On the shelf, branch 1.", "Ready for Bo Carr, hold 1, at branch 2 until 2026-03-07.",
-  "In transit to branch 1, for Bo Carr, hold 3.", "In transit to branch 1.", "Loan 1 of Ann Bell, due on 2026-03-09.", "Missing.", "Withdrawn."]);
+  "In transit to branch 1, for Bo Carr, hold 3.", "In transit to branch 1.", "On loan to Ann Bell, due 2026-03-09.", "Missing.", "Withdrawn."]);
 is(["pulls", "overdue"].map((question) => wordsOfQuestion(question, 1, 100)), [["pulls", 1, 100], ["overdue", 1, 100]]);
 is([wordsOfQuestion("copy", 10, 0), wordsOfQuestion("till", "2026-03-17", 0), wordsOfQuestion("debts", 1, 7), wordsOfQuestion("account", 3, 5)], [["copy", 10], ["till", "2026-03-17"], ["debts", 7], ["account", 3, 5]]);
+is([wordsOfQuestion("branches", 1, 7), wordsOfQuestion("kinds", 1, 0), wordsOfQuestion("closed-days", 1, 20515), wordsOfQuestion("rules", "2", 9)], [["branches", 7], ["kinds", 0], ["closed-days", 1, 20515], ["rules", "2", 9]]);
 is(["find-patrons", "find-titles"].map((question) => wordsOfQuestion(question, "bell an", 1100)), [["find-patrons", 1100, "bell an"], ["find-titles", 1100, "bell an"]]);
+
+// ---- a ready hold whose day is over can leave the hold shelf, and no other
+const ready = { hold: 7, until: "2026-03-07" };
+is([expiredHold("shelf", ready, "2026-03-08"), expiredHold("shelf", ready, "2026-03-07"), expiredHold("shelf", ready, null), expiredHold("overdue", { loan: 1, due: "2026-03-02" }, "2026-03-08"), expiredHold("pulls", { hold: 7 }, "2026-03-08")],
+  [7, null, null, null, null]);
+
+// ---- a table is sorted by a column, numbers and amounts as such, with what is empty last, and is saved for a spreadsheet
+const owing = [["9", "Zoë, \"Z\"", "0.50"], ["10", "Ann", ""], ["8", "bo", "13.00"], ["11", "Ann", "2.00"]];
+const by = (column, isDown) => sorted(owing, { column, isDown }).map(([number]) => number);
+is([by(0, false), by(0, true)], [["8", "9", "10", "11"], ["11", "10", "9", "8"]]);
+is([by(1, false), by(1, true)], [["10", "11", "8", "9"], ["9", "8", "10", "11"]]);
+is([by(2, false), by(2, true)], [["9", "11", "8", "10"], ["8", "11", "9", "10"]]);
+is(sorted([["2026-03-10"], ["2026-03-09"]], { column: 0, isDown: false }), [["2026-03-09"], ["2026-03-10"]]);
+is(owing[0][0], "9");
+is([sortedNext(null, 2), sortedNext({ column: 2, isDown: false }, 2), sortedNext({ column: 2, isDown: true }, 2), sortedNext({ column: 2, isDown: true }, 0)],
+  [{ column: 2, isDown: false }, { column: 2, isDown: true }, { column: 2, isDown: false }, { column: 0, isDown: false }]);
+is(csvOf({ columns: ["Patron", "Name"], rows: [["9", marked('Zoë, "Z"')], ["10", ""], ["11", "two\nlines"]] }), 'Patron,Name\r\n9,"Zoë, ""Z"""\r\n10,\r\n11,"two\nlines"\r\n');
+is([fileNameOf("debts", "2026-03-02"), fileNameOf("kinds", null)], ["debts-2026-03-02.csv", "kinds.csv"]);
 
 // ---- what is shown of words, and of a copy that has another home
 is([["card-key", "1", "newkey000001"], ["patron", "4", "1", "cardkey00004", "Di"], ["amend-patron", "4", "1", "Di"]].map(withoutCardKey), [["card-key", "1", ""], ["patron", "4", "1", "", "Di"], ["amend-patron", "4", "1", "Di"]]);
@@ -189,12 +267,24 @@ is(saidFully(["rehome", "10", "2"], readReply("ok"), { copy: readCopy("copy 10 h
 
 // ---- a patron's page as the desk shows it
 is(pageLines(readPage(page.join("\n")), { 3: "2026-03-07" }), [
-  "Rivers of the North, loan 1, due on 2026-03-09, no renewal left",
+  "Rivers of the North, loan 1, due 2026-03-09, no renewal left",
   "Salt Roads, hold 1, waiting, to be picked up at branch 1",
   "due 2026-03-09 renewals 1 title 5, hold 2, waiting from 2026-04-01, to be picked up at branch 2",
   "Winter Bees, hold 3, ready at branch 2 until 2026-03-07",
 ]);
 is(pageLines(readPage(page.join("\n")), {}).at(-1), "Winter Bees, hold 3, ready at branch 2");
+
+// ---- names and titles are marked wherever they stand, and what is marked is nothing else
+const marks = (texts) => texts.flatMap((text) => text.match(/\u0002[^\u0003]*\u0003/g) ?? []).map(plain);
+const bees = "שרה 42";
+is(marks(saying.pageLines(readPage(`patron 1 owed 0 name ${bees}\nloan 1 due 2026-03-09 renewals 0 title 2 ${bees}\nhold 1 at 1 ready title 3 B`), {})), [bees, "B"]);
+is(marks([saying.said(readReply(`patron 1 owed 0 name ${bees}`)), saying.whereIs({ to: "loan", loan: 1, due: "2026-03-09", name: bees }), saying.shownWords(["amend-title", "1", bees]),
+  saying.shownWords(["find-patrons", "0", bees]), saying.shownWords(["check-out", "1", "2", "3"]), saying.shownWords(["patron", "7", "1", "cardkey00007", bees]), saying.saidNo({ refusal: 36 })]), Array(5).fill(bees));
+const cellsOf = (question, text) => tables.tableOf(question, readList(question, text)).rows[0];
+is(marks(["pulls", "overdue", "find-titles", "branches"].flatMap((question, at) => cellsOf(question, [`hold 2 copy 11 title 100 ${bees}\nend`,
+  `      loan  patron    copy due         late title\n         1       3      10 2026-03-09     7 ${bees}\nend`, `title 1 ${bees}\nend`, `branch 1 pickup 5 week ooooooc name ${bees}\nend`][at]))), Array(4).fill(bees));
+is(marks([tables.tableOf("queue", readList("queue", `title 1 ${bees}\nend`)).head, tables.tableOf("find-patrons", { head: { sought: bees }, rows: [] }).head]), [bees, bees]);
+is([plain(marked(bees)), marked("")], [bees, "\u0002\u0003"]);
 
 // ---- what is none
 for (const text of ["", "ended", "an end", "after", "after 3\nend of it", "today", "today 2026-3-2", "patron 1 owed 20 name Ann\nkind", "title 100 A\nafter", "copy 10 home 1", "till 2026-03-17", "okay", "ok\n", "loan 01 due 2026-03-09", "loan 1 due 2026-3-9", "hold", "fine 0 nowhere 1", "fine 0", "transit 1 for", "page",
@@ -237,7 +327,39 @@ is(daysBetween("2026-03-28", "2026-03-30"), 2);
 is(daysBetween("2026-03-09", "2026-03-02"), -7);
 is([today(new Date(2026, 2, 9)), today(new Date(2026, 11, 31, 23, 59))], ["2026-03-09", "2026-12-31"]);
 is([branchName(1), branchName(2, { 2: "Harbour" }), branchName(3, { 2: "Harbour" })], ["branch 1", "Harbour", "branch 3"]);
-is(say(TEXTS.lent, { loan: 3, due: "2026-03-09" }), "Loan 3, due on 2026-03-09.");
+is(say(TEXTS.lent, { loan: 3, due: "2026-03-09" }), "Loan 3, due 2026-03-09.");
+
+// ---- a line that isn't understood: which word, and why
+for (const [line, problem] of [
+  ["chek-out 1 2 3", "Unknown command chek-out; the field offers them all."],
+  ["toString 1", "Unknown command toString; the field offers them all."],
+  ["check-out 1", "Words after check-out: 1 instead of 3. PATRON COPY BRANCH"],
+  ["today 1", "Words after today: 1 instead of 0."],
+  ["find-patrons 0 bell an", "Words after find-patrons: 3 instead of 2. AFTER TEXT"],
+  ["check-out 1 x 1", "copy must be a number up to 4294967295, without a leading zero: x"],
+  ["check-out 1 01 1", "copy must be a number up to 4294967295, without a leading zero: 01"],
+  ["renew 4294967296", "loan must be a number up to 4294967295, without a leading zero: 4294967296"],
+  ["pay 1 250", "amount must be an amount such as 2.50: 250"],
+  ["pay 1 2.5", "amount must be an amount such as 2.50: 2.5"],
+  ["acquire 1 1 1 1 x Tides", "price must be an amount such as 2.50: x"],
+  ["pay 1 42949672.96", "amount must be an amount such as 2.50: 42949672.96"],
+  ["begin-day 2026-02-29", "day must be a day from 2000-01-01 to 2199-12-31, such as 2026-03-02: 2026-02-29"],
+  ["week 1 ooooooo7", "mask must be seven letters, Monday to Sunday: o for open, c for closed: ooooooo7"],
+  ["patron 1 1 short 'Ann Bell'", "card-key must be 8 to 32 ASCII letters and digits: short"],
+  ["amend-title 1 ' Tides'", "text must be 1 to 120 bytes, with no control character and no space at either end:  Tides"],
+  ["amend-title 1 ''", "text must be 1 to 120 bytes, with no control character and no space at either end: "],
+  ["check-out -1 x", "No word may begin with a hyphen: -1"],
+  ["amend-title 1 'Tides", "A quote is not closed: 'Tides"],
+  ["amend-title 1 O'Hara", "A quote is not closed: O'Hara"],
+]) {
+  is(plain(problemOfLine(line)), problem);
+}
+is(["pay 1 2.50", "pay 1 2,50", "kind 1 5 5 5.00", "rule 1 1 28 2 0.20 10.00", "acquire 10 100 1 1 25.00 'Salt Roads'", "today", "grace 1 1 2"].map((line) => wordsTyped(readLine(line).words).join(" ")),
+  ["pay 1 250", "pay 1 250", "kind 1 5 5 500", "rule 1 1 28 2 20 1000", "acquire 10 100 1 1 2500 Salt Roads", "today", "grace 1 1 2"]);
+const long120 = "ö".repeat(60);
+is(["begin-day 2028-02-29", `amend-title 1 ${long120}`, "week 1 ccccccc", "pay 1 42949672.95", 'patron 1 1 cardkey00001 "Ann O\'Hara"', "today"].map(problemOfLine), Array(6).fill(null));
+is([problemOfLine(`amend-title 1 ${long120}x`) === null, problemOfLine("amend-title 1 'a\u0007b'") === null], [false, false]);
+is(["2000-01-01", "2199-12-31", "1999-12-31", "2200-01-01", "2026-3-1", "2026-13-01", "2026-04-31", ""].map(isDay), [true, true, false, false, false, false, false, false]);
 
 // ---- what a patron asks for
 is(holdBody("100", "1", ""), '{"branch":1,"title":100}');

@@ -1,5 +1,5 @@
 #!/usr/bin/env python3
-"""Compares the pages for browsers with the program: the meanings of numbers and the table of commands stand in both, the pages name nothing that
+"""Compares the pages for browsers with the program: each number that it tells has a sentence, the table of commands stands in both, the pages name nothing that
 isn't theirs, the modules that read replies are run on every form, and the work of a desk is done as fast as the fastest hand, over the slowest network.
 
     tests/gate/pages.py
@@ -13,7 +13,7 @@ from room import TOP
 from lib.checking import check, run_script
 from reference.outer_forms import WORDS
 
-MODULES = {"pages": 202, "hands": 116}  # how many comparisons the modules of these names make
+MODULES = {"pages": 276, "hands": 297}  # how many comparisons the modules of these names make
 
 
 def read(path):
@@ -37,6 +37,19 @@ def commands():
     return program, page
 
 
+def kinds():
+    """The kinds of the parts that aren't numbers, of the program and of the pages."""
+    program = re.findall(r'name: "([^"]*)",\s*kind: PartKind::(\w+)', read("crates/terms/src/form.rt"))
+    inside = re.search(r"export const KINDS = \{([^}]*)\}", read("pages/commands.js"))[1]
+    return [it for it in dict(program).items() if it[1] != "Number"], re.findall(r'"([^"]*)": "(\w+)"', inside)
+
+
+def wanted():
+    """What a word of each kind must be, of the program and of the pages. Only an amount is typed there as it is shown, and not in cents."""
+    program = [it for it in re.findall(r'PartKind::(\w+) => \{?\s*"([^"]*)"', read("crates/messages/src/misread.rt")) if it[0] != "Amount"]
+    return program, [(kind, text) for kind, text in re.findall(r'^  must([A-Z]\w*): "([^"]*)",$', read("pages/texts.js"), re.MULTILINE) if kind != "Be"]
+
+
 def loaded(script):
     """A script of a page, and those that it loads."""
     found, left = [], [script]
@@ -51,10 +64,13 @@ def loaded(script):
 def main():
     program, page = meanings()
     check("how many meanings there are", len(program) >= 40, True)
-    check("the meanings", page, program)
+    check("the numbers", [number for number, _ in page], [number for number, _ in program])
+    check("meanings that are no short sentence", [text for _, text in page if not re.fullmatch(r"[A-Z][^.]*\.", text) or len(text) > 90], [])
     program, page = commands()
     check("the commands of the program", [name for name, _ in program], list(WORDS))
     check("the commands", page, program)
+    for what, (program, page) in (("the kinds of parts", kinds()), ("what a word must be", wanted())):
+        check(what, (page, len(page) > 4), (program, True))
 
     names = sorted(os.listdir(os.path.join(TOP, "pages")))
     pages, scripts = ([name for name in names if name.endswith(end)] for end in (".html", ".js"))

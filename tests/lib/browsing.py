@@ -49,9 +49,10 @@ class Page:
 
     def __init__(self, driver, url, title):
         self.driver = driver
-        driver.get(url)
+        # what is kept is cleared where no page is at work, or it would be kept again
+        driver.get(f"{url.rpartition('/')[0]}/style.css")
         driver.execute_script("sessionStorage.clear(); localStorage.clear()")
-        driver.refresh()
+        driver.get(url)
         until("the texts", lambda: driver.title == title)
 
     def it(self, name):
@@ -129,7 +130,7 @@ class Desk(Page):
             until(f"a yes to {line}", lambda: self.it("typed").is_displayed())
             self.type("typed", "yes")
             self.it("typed").send_keys(Keys.ENTER)
-        until(line, lambda: self.is_noted() or self.told().startswith("This is not a command"))
+        until(line, lambda: self.is_noted() or (self.is_wrong() and self.it("words").get_attribute("value") == line))
         return self.told()
 
     def scan(self, text):

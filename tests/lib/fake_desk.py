@@ -26,10 +26,10 @@ NOTHING = None  # the connection is closed with no answer
 
 class FakeDesk:
     """`answer(what)` gives a time, a status and a body for the words of a desk's request, or for the method and the path of a patron's; `sent` is what came. A time is in seconds, or an
-    event that is waited for."""
+    event that is waited for. The library's day is asked at any time, so it has an answer of its own and isn't among what came."""
 
     def __init__(self, pages):
-        self.pages, self.sent, self.answer = pages, [], lambda what: (0.0, 404, json.dumps({"status": 404}))
+        self.day, self.pages, self.sent, self.answer = time.strftime("%Y-%m-%d"), pages, [], lambda what: (0.0, 404, json.dumps({"status": 404}))
         handler = type("Handler", (Handler,), {"fake": self})
         self.server = ThreadingHTTPServer(("127.0.0.1", 0), handler)
         self.url = f"http://127.0.0.1:{self.server.server_address[1]}"
@@ -64,6 +64,8 @@ class Handler(BaseHTTPRequestHandler):
         self.asked(" ".join(json.loads(body)) if self.path == "/desk" else f"POST {self.path} {body}".strip())
 
     def asked(self, what):
+        if what == "today":
+            return self.tell(200, json.dumps({"reply": f"today {self.fake.day}"}).encode(), "application/json")
         self.fake.sent.append((what, self.headers["Request-Key"]))
         answer = self.fake.answer(what)
         if answer is NOTHING:

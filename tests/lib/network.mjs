@@ -6,6 +6,8 @@ export class Kept {
   setItem(name, text) { this.all.set(name, text); }
   removeItem(name) { this.all.delete(name); }
   clear() { this.all.clear(); }
+  get length() { return this.all.size; }
+  key(at) { return [...this.all.keys()][at]; }
 }
 
 // `answers` are [milliseconds, status, text], in turn, or a function from the body that is sent to one; a status of null is no answer at all, and a text of

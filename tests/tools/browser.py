@@ -58,6 +58,8 @@ def behind_nginx(place, port, allowed="allow 127.0.0.1;"):
     made = outside.run("openssl", "req", "-x509", "-newkey", "rsa:2048", "-nodes", "-keyout", key, "-out", cert, "-days", "2", "-subj", "/CN=library.example")
     outside.need("a certificate", made.returncode == 0, made.stderr)
     site = outside.document("operations/nginx.conf").replace("/etc/ssl/circ/cert.pem", cert).replace("/etc/ssl/circ/key.pem", key).replace("allow 127.0.0.1;", allowed)
+    outside.write(f"{place}/health.key", f"proxy_set_header Desk-Key {DESK_KEY};\n")
+    site = site.replace("/etc/circ/health.key", f"{place}/health.key")
     site = site.replace("listen 443", f"listen {at}").replace("127.0.0.1:8080", f"127.0.0.1:{port}").replace("root /usr/local/share/circ", f"root {place}/share/circ")
     temporary = "".join(f"{it}_temp_path {place}/{it};\n" for it in ("client_body", "proxy", "fastcgi", "uwsgi", "scgi"))
     outside.write(f"{place}/nginx.conf", f"user root;\npid {place}/pid;\nerror_log {place}/error.log;\nevents {{}}\nhttp {{\ninclude /etc/nginx/mime.types;\naccess_log off;\n{temporary}{site}\n}}\n")
@@ -89,8 +91,13 @@ def dollars(cents):
     return f"{int(cents) // 100}.{int(cents) % 100:02}"
 
 
-def meaning(number):
-    return dict(re.findall(r"^\| (\d+) \| ([^|]*?) \|", outside.document("RULES.md"), re.M))[number]
+def sentences():
+    """What the pages say of each number."""
+    with open(f"{TOP}/pages/texts.js", encoding="utf-8") as file:
+        return dict(re.findall(r'^  (\d+): "([^"]*)",$', file.read(), re.M))
+
+
+REFUSALS = sentences()
 
 
 def day():
@@ -108,10 +115,10 @@ def day():
 
 
 class Known:
-    """Of the lines of the day so far: the titles of copies, names of patrons, whose the holds are and until when they are ready, and which copies are on loan."""
+    """Of the lines of the day so far: the titles of copies, names of patrons, whose the holds are and until when they are ready, which copies are on loan, who had each last, and who owes how much."""
 
     def __init__(self):
-        self.of_copy, self.of_title, self.names, self.holders, self.loans, self.untils = {}, {}, {}, {}, {}, {}
+        self.of_copy, self.of_title, self.names, self.holders, self.loans, self.untils, self.borrowers, self.owed = {}, {}, {}, {}, {}, {}, {}, {}
 
     def learn(self, line, answer):
         name, *parts = re.findall(r"'[^']*'|\S+", line)
@@ -119,13 +126,28 @@ class Known:
             self.of_copy[parts[0]] = self.of_title[parts[1]] = parts[5].strip("'")
         elif name == "patron":
             self.names[parts[0]] = parts[3].strip("'")
+        elif name == "amend-patron":
+            self.names[parts[0]] = parts[2].strip("'")
+        elif name == "amend-title":
+            former, text = self.of_title[parts[0]], parts[1].strip("'")
+            self.of_title[parts[0]] = text
+            self.of_copy.update({copy: text for copy, title in self.of_copy.items() if title == former})
         elif name.startswith("place-hold") and answer.startswith("hold "):
             self.holders[answer.split()[1]] = self.names[parts[0]]
         elif name == "check-out" and answer.startswith("loan "):
             self.loans[answer.split()[1]] = parts[1]
+            self.borrowers[parts[1]] = parts[0]
+        elif name in ("check-in", "missing") and answer.startswith("fine "):
+            self.owed[self.borrowers.get(parts[0])] = self.owing(parts[0], answer)
+        elif name in ("pay", "waive") and answer.startswith("owed "):
+            self.owed[parts[0]] = int(answer.split()[1])
         ready = re.search(r"ready (\d+) at \d+ until (\S+)", answer)
         if ready:
             self.untils[ready[1]] = ready[2]
+
+    def owing(self, copy, answer):
+        """What the last borrower of a copy owes once a fine or a price came to it, in cents."""
+        return self.owed.get(self.borrowers.get(copy), 0) + sum(map(int, re.findall(r"(?:fine|price) (\d+)", answer)))
 
     def placed(self, place):
         """What the clerk is told of a place to which a copy goes."""
@@ -139,17 +161,26 @@ class Known:
 
 def refused(answer):
     number = re.fullmatch(r"refused (\d+)", answer)
-    return number and f"Refused ({number[1]}): {meaning(number[1])}."
+    return number and REFUSALS[number[1]]
 
 
 FORMS = [
     (r"ok", lambda: "Done."),
-    (r"loan (\d+) due (\S+)", lambda loan, due: f"Loan {loan}, due on {due}."),
+    (r"loan (\d+) due (\S+)", lambda loan, due: f"Loan {loan}, due {due}."),
     (r"hold (\d+)", lambda hold: f"Hold {hold} is placed."),
     (r"owed (\d+)", lambda owed: f"Still owed: {dollars(owed)}."),
     (r"fine (\d+) price (\d+)", lambda fine, price: f"Fine {dollars(fine)}, price {dollars(price)}."),
     (r"transit (\d+)", lambda branch: f"In transit to {BRANCHES[branch]}."),
+    (r"patron (\d+) owed (\d+) name (.*)\nkind (\d+)", lambda patron, owed, name, kind: f"Patron {patron}, {name}: kind {kind}, owes {dollars(owed)}."),
 ]
+LISTED = ("pulls", "shelf", "overdue", "transits", "debts", "account", "till", "missing-copies", "loans", "rules", "find-patrons", "find-titles")
+
+
+def typed(line):
+    """A line of the program as it is typed on the page: amounts as they are shown there."""
+    name, *words = re.findall(r"'[^']*'|\S+", line)
+    at = {"kind": [3], "rule": [4, 5], "acquire": [4], "amend-copy": [2], "pay": [1], "waive": [1]}.get(name, [])
+    return " ".join([name, *(dollars(word) if place in at else word for place, word in enumerate(words))])
 
 
 def shown(line):
@@ -178,11 +209,26 @@ def cells(question, answer):
         "debts": (r"patron (\d+) owed (\d+) name (.*)", lambda patron, owed, name: f"{patron} {name} {dollars(owed)}"),
         "account": (r"line (\d+) (\S+) (\w+) (\d+)(?: loan \d+ title \d+ (.*))?", lambda line, on, sort, cents, text: f"{line} {on} {sort} {dollars(cents)} {text or ''}".strip()),
         "till": (r"(\w+) +(\d+)", lambda sort, cents: f"{sort} {dollars(cents)}"),
+        "missing-copies": (r"copy (\d+) home (\d+) title (\d+) (.*)", lambda copy, home, title, text: f"{copy} {text} {title} {BRANCHES[home]}"),
+        "loans": (r"loan (\d+) patron (\d+) made (\S+) due (\S+)(?: ended (\S+))?", lambda *them: " ".join(it for it in them if it)),
+        "rules": (r"rule \d+ (\d+) period (\d+) renewals (\d+) rate (\d+) cap (\d+) grace (\d+)", lambda kind, *them: " ".join([kind, *them[:2], dollars(them[2]), dollars(them[3]), them[4]])),
+        "find-patrons": (r"patron (\d+) owed (\d+) name (.*)", lambda patron, owed, name: f"{patron} {name} {dollars(owed)}"),
+        "find-titles": (r"title (\d+) (.*)", lambda title, text: f"{title} {text}"),
     }
     form, made = forms[question]
     lines = answer.split("\n")
     headless = lines[1:] if question in ("shelf", "overdue", "account", "till") else lines
     return [made(*re.fullmatch(form, line).groups()) for line in headless if line != "end"]
+
+
+def standing(place):
+    """What a list shows of the place of a copy."""
+    lent = re.fullmatch(r"loan (\d+) due (\S+) patron \d+ (.*)", place)
+    if lent:
+        return f"On loan to {lent[3]}, due {lent[2]}."
+    forms = {"shelf": "On the shelf, {}.", "transit": "In transit to {}."}
+    kind, *branch = place.split()[:2]
+    return forms[kind].format(BRANCHES[branch[0]]) if kind in forms else f"{place.capitalize()}."
 
 
 class Clerk:
@@ -215,8 +261,17 @@ class Clerk:
         if refused(answer) and line.startswith("check-out"):
             until(f"where the copy of {line} is", lambda: self.desk.told().startswith(f"{label}: {refused(answer)} {title}: "))
             return self.desk.go_on()
-        done = f"{title}: {shown(answer)} For {name}." if title else f"{shown(answer)} For {name}."
+        done = self.done(line, title, name, answer)
         return self.told(f"scanned {line}", f"{label}: {refused(answer)}" if refused(answer) else done)
+
+    def done(self, line, title, name, answer):
+        """What is told of an accepted scan, for whom and of which title."""
+        lent, held, owed = (re.fullmatch(it, answer) for it in (r"loan \d+ due (\S+)", r"hold (\d+)", r"owed (\d+)"))
+        if lent and name:
+            return f"{title} {'renewed for' if line.startswith('renew') else 'lent to'} {name}, due {lent[1]}."
+        if held:
+            return f"Hold {held[1]} on {title} is placed for {name}."
+        return f"{name} still owes {dollars(owed[1])}." if owed else f"{title}: {shown(answer)}"
 
     def check_out(self, line, answer, patron, copy, branch):
         if patron not in self.known.names:
@@ -231,11 +286,12 @@ class Clerk:
         desk.mode("check-in")
         desk.scan(copy)
         fine, place = re.fullmatch(r"fine (\d+) (.*)", answer).groups()
-        self.told(line, f"{self.known.of_copy[copy]}: {self.known.placed(place)} " + ("No fine." if fine == "0" else f"Fine: {dollars(fine)}."))
+        owed = f"Fine: {dollars(fine)}. {self.known.names.get(self.known.borrowers.get(copy))} owes {dollars(self.known.owing(copy, answer))} now."
+        self.told(line, f"{self.known.of_copy[copy]}: {self.known.placed(place)} " + ("No fine." if fine == "0" else owed))
         need("a slip where the copy goes to a hold or a branch", desk.it("slips").is_displayed(), not place.startswith("shelf"))
         if not place.startswith("shelf"):
             held = re.search(r"(?:ready|for) (\d+)", place)
-            need("who is on the slip", self.known.holders[held[1]] in desk.it("slip-list").text, True)
+            need("who is on the slip", held is None or self.known.holders[held[1]] in desk.it("slip-list").text, True)
             desk.it("put-away").click()
 
     def place_hold(self, line, answer, patron, title, branch):
@@ -246,7 +302,9 @@ class Clerk:
     def pay(self, line, answer, patron, cents):
         self.visit("pay", patron, self.branch)
         self.desk.scan(dollars(cents))
-        self.scanned(line, f"{dollars(cents)} paid, patron {patron}", None, self.known.names[patron], answer)
+        if answer == "refused 60" and int(cents) > 0:
+            return self.told(line, f"{dollars(cents)} paid, patron {patron}: That is more than is owed ({dollars(self.known.owed.get(patron, 0))}).")
+        return self.scanned(line, f"{dollars(cents)} paid, patron {patron}", None, self.known.names[patron], answer)
 
     def renew(self, line, answer, loan):
         copy = self.known.loans[loan]
@@ -267,9 +325,15 @@ class Clerk:
         if question == "till":
             self.driver.execute_script("arguments[0].value = arguments[1]", desk.it("till-day"), parts[0])
             self.driver.find_element(By.CSS_SELECTOR, "#counting button").click()
-        elif question == "account":
-            desk.type("looked", f"P{parts[0]}")
-            self.driver.find_element(By.CSS_SELECTOR, "#looking button[value=account]").click()
+        elif question in ("account", "loans"):
+            desk.type("looked", f"{'P' if question == 'account' else 'C'}{parts[0]}")
+            self.driver.find_element(By.CSS_SELECTOR, f"#looking button[value={question}]").click()
+        elif question == "rules":
+            desk.type("ruled", parts[0])
+            desk.it("ruled").send_keys(Keys.ENTER)
+        elif question.startswith("find-"):
+            desk.type("sought", " ".join(parts[1:]).strip("'"))
+            self.driver.find_element(By.CSS_SELECTOR, f"#finding button[value={question}]").click()
         else:
             self.driver.find_element(By.CSS_SELECTOR, f"#list-buttons button[value={question}]").click()
         found = cells(question, answer)
@@ -283,17 +347,19 @@ class Clerk:
         self.desk.it("looked").send_keys(Keys.ENTER)
         until("a copy", lambda: len(self.desk.items("list-rows")) == 1)
         home, price, title, text, place = re.fullmatch(r"copy \d+ home (\d+) kind \d+ price (\d+) title (\d+) (.*)\n(.*)", answer).groups()
-        need(line, self.desk.items("list-rows"), [f"{copy} {text} {title} {BRANCHES[home]} {dollars(price)} {place.capitalize()}."])
+        until("this copy", lambda: self.desk.it("list-head").text == f"Copy {copy}")
+        need(line, self.desk.items("list-rows"), [f"{copy} {text} {title} {BRANCHES[home]} {dollars(price)} {standing(place)}"])
 
     def words(self, line, answer):
         desk = self.at(self.desk and self.branch or "1")
-        told = desk.words(line)
-        need(line, shown(answer) in told, True)
+        told, owed = desk.words(typed(line)), re.fullmatch(r"owed (\d+)", answer)
+        # of the patron at the desk it is said with the name
+        need(line, shown(answer) in told or bool(owed and f" still owes {dollars(owed[1])}." in told), True)
         desk.go_on()
 
     def does(self, line, answer):
         name, *parts = line.split()
-        if name in ("pulls", "shelf", "overdue", "transits", "debts", "account", "till"):
+        if name in LISTED:
             self.listed(line, answer, name, *parts)
         elif name in ("check-out", "check-in", "place-hold", "pay", "renew", "page", "copy"):
             getattr(self, name.replace("-", "_"))(line, answer, *parts)
@@ -313,20 +379,20 @@ def clerk(driver, base):
                 hands.does(row, "ok")
         hands.does(line, answer)
     desk = hands.desk
-    need("words that are none", desk.words("check-out 1"), "This is not a command.")
+    need("words that are none", desk.words("check-out 1"), "Words after check-out: 1 instead of 3. PATRON COPY BRANCH")
     need("no name is empty", [it for it in desk.names() if not it[1]], [])
     need("320 pixels", desk.fits(320), True)
     every_number(driver, desk)
 
 
 def every_number(driver, desk):
-    """Each refusal and each fault is shown in the words of the rules; here the answers are made in the browser."""
-    numbers = re.findall(r"^\| (\d+) \| ([^|]*?) \|", outside.document("RULES.md"), re.M)
-    need("how many numbers", len(numbers), 40)
-    for number, meant in numbers:
+    """Each refusal and each fault is shown in the words of the page's texts; here the answers are made in the browser."""
+    numbers = re.findall(r"^\| (\d+) \|", outside.document("RULES.md"), re.M)
+    need("the numbers that have words", sorted(REFUSALS), sorted(numbers))
+    for number, meant in {**REFUSALS, "81": "The key is wrong, or may not do this."}.items():
         name, status = ("fault", 503) if int(number) >= 90 else ("refusal", 403 if number == "81" else 409)
         driver.execute_script(f"window.fetch = async () => new Response(JSON.stringify({{{name}: {number}}}), {{status: {status}}})")
-        text = f"Fault {number}: {meant}. Send it again later; it takes effect once." if name == "fault" else f"Refused ({number}): {meant}."
+        text = f"Fault {number}: {meant} Send it again later; it will be done only once." if name == "fault" else meant
         need(f"number {number}", desk.words("renew 1"), text)
         need(f"whether {number} can be sent again", desk.it("again").is_displayed(), name == "fault")
         desk.go_on()
@@ -340,13 +406,13 @@ def killed(driver, base, serving):
     serving.kill()
     desk.mark()
     desk.keys("20", Keys.ENTER)
-    until("not known", lambda: desk.told().startswith("No answer yet"))
+    until("not known", lambda: desk.told().startswith("No connection"))
     driver.refresh()
-    until("not known after it was loaded anew", lambda: desk.told().startswith("No answer yet"))
+    until("not known after it was loaded anew", lambda: desk.told().startswith("No connection"))
     desk.mark()
     serving.start()
     until("an answer", desk.is_noted, 60)
-    need("the loan", desk.told()[:20], "Salt Roads: Loan 6, ")
+    need("the loan", desk.told()[:19], "Salt Roads lent to ")
 
 
 def strangers(driver, base):
@@ -362,7 +428,7 @@ def patron(driver, base, serving):
     page = Page(driver, f"{base}/pages/patron.html", "My library card")
     keyboard = ActionChains(driver)
     keyboard.send_keys(Keys.TAB, "1", Keys.TAB, "cardkey99999", Keys.ENTER).perform()
-    until("a wrong key is told", lambda: page.told() == f"Refused (81): {meaning('81')}.")
+    until("a wrong key is told", lambda: page.told() == REFUSALS["81"])
     need("no page for a wrong key", page.it("page").is_displayed(), False)
     page.type("number", "1")
     page.type("card-key", "cardkey00001")
@@ -374,18 +440,18 @@ def patron(driver, base, serving):
     page.keys(Keys.TAB)
     need("the first button", driver.switch_to.active_element.get_attribute("aria-label"), "Renew Rivers of the North")
     page.keys(Keys.ENTER)
-    until("renewed", lambda: page.told().startswith("Loan 5, due on"))
+    until("renewed", lambda: page.told().startswith("Loan 5, due "))
     until("no renewal is left", lambda: "no renewal left" in page.it("loans").text)
     need("no button where none is left", driver.find_elements(By.CSS_SELECTOR, "#loans button"), [])
     page.type("title", "999")
     page.type("branch", "1")
     page.keys(Keys.ENTER)
-    until("refused", lambda: page.told() == f"Refused (12): {meaning('12')}." and page.is_wrong())
+    until("refused", lambda: page.told() == REFUSALS["12"] and page.is_wrong())
     need("the title stays", page.it("title").get_attribute("value"), "999")
     page.type("title", "400")
     page.keys(Keys.ENTER)
     until("a hold", lambda: page.told() == "Hold 4 is placed." and not page.is_wrong())
-    until("the hold", lambda: page.it("holds").text.replace("\n", " ") == "Winter Bees waiting, to be picked up at Main Cancel")
+    until("the hold", lambda: page.it("holds").text.replace("\n", " ") == "Wintering Bees waiting, to be picked up at Main Cancel")
     need("no name is empty", [it for it in page.names() if not it[1]], [])
     need("320 pixels", page.fits(320), True)
     # the program is killed, and what is asked for meanwhile is sent again under its key
@@ -393,15 +459,15 @@ def patron(driver, base, serving):
     button = driver.find_element(By.CSS_SELECTOR, "#holds button")
     button.click()
     button.click()
-    until("not known", lambda: page.told().startswith("No answer yet"))
+    until("not known", lambda: page.told().startswith("No connection"))
     driver.refresh()
-    until("not known after it was loaded anew", lambda: page.told().startswith("No answer yet"))
+    until("not known after it was loaded anew", lambda: page.told().startswith("No connection"))
     serving.start()
     until("cancelled", lambda: page.told() == "Done.", 60)
     until("no hold", lambda: page.it("holds").text == "No holds.")
     # a hold from today on, and one from a day to come
     place_from(page, "300", "2", "03252026")
-    until("no day to come", lambda: page.told() == f"Refused (23): {meaning('23')}.")
+    until("no day to come", lambda: page.told() == REFUSALS["23"])
     place_from(page, "300", "2", "04012026")
     until("a hold from a day on", lambda: page.told() == "Hold 5 is placed.")
     until("its day", lambda: page.it("holds").text.replace("\n", " ") == "Maps, Old and New waiting from 2026-04-01, to be picked up at Harbour Cancel")
@@ -450,13 +516,13 @@ def borrowed(driver, base, pictures):
     """Ann borrows again, and has a receipt."""
     desk = Desk(driver, base, 1)
     desk.scan("P1")
-    need("Ann borrows again", desk.scan("C11")[:27], "Rivers of the North: Loan 5")
+    need("Ann borrows again", desk.scan("C11")[:28], "Rivers of the North lent to ")
     until("her receipt", lambda: len(desk.items("receipt")) == 1)
-    need("what is on it", re.fullmatch(r"Rivers of the North, due on \d{4}-\d\d-\d\d", desk.items("receipt")[0]) is not None, True)
+    need("what is on it", re.fullmatch(r"Rivers of the North, due \d{4}-\d\d-\d\d", desk.items("receipt")[0]) is not None, True)
     driver.find_element(By.CSS_SELECTOR, "#list-buttons button[value=debts]").click()
-    until("who owes for the days after the till", lambda: desk.items("list-rows") == ["3 Cy Dunn 0.40"])
+    until("who owes for the days after the till", lambda: desk.items("list-rows") == ["3 Cy Dünn 0.40"])
     if pictures:
-        look(driver, "desk-page.png", (900, 1150))
+        look(driver, "desk-page.png", (1280, 1000))
 
 
 def tried(behind, pictures):

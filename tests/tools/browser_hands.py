@@ -11,6 +11,7 @@ import threading
 import time
 
 from selenium.webdriver.common.action_chains import ActionChains
+from selenium.webdriver.common.by import By
 from selenium.webdriver.common.keys import Keys
 
 from room import TOP
@@ -65,7 +66,7 @@ def refused_scans(driver, fake):
     fake.says(answers({"check-in 2": refusal(13), "check-in 5": refusal(13), "copy 2": refusal(13), "copy 5": refusal(13), "check-in": reply("fine 0 shelf 1")}, 0.1))
     desk.mode("check-in")
     desk.keys("1", Keys.ENTER, "2", Keys.ENTER, "3", Keys.ENTER, "4", Keys.ENTER)
-    until("a refusal", lambda: desk.told() == "copy 2: Refused (13): unknown copy.")
+    until("a refusal", lambda: desk.told() == "copy 2: There is no such copy.")
     need("it looks like one, and is heard", (desk.is_wrong(), driver.execute_script("return window.notes") > 0), (True, True))
     need("a screen reader is told at once", desk.it("told").get_attribute("aria-live"), "assertive")
     until("what waits stays", lambda: desk.items("waiting") == ["copy 3", "copy 4"])
@@ -79,7 +80,7 @@ def refused_scans(driver, fake):
     until("the first refusal", lambda: desk.items("waiting") == ["copy 5", "copy 9"] and desk.is_wrong())
     time.sleep(0.7)
     ActionChains(driver).click(desk.it("send-on")).pause(0.3).click(desk.it("send-on")).perform()
-    until("the second refusal", lambda: desk.told() == "copy 5: Refused (13): unknown copy.")
+    until("the second refusal", lambda: desk.told() == "copy 5: There is no such copy.")
     time.sleep(0.3)
     need("it is passed over by nobody", (desk.items("waiting"), "check-in 9 1" in fake.words()), (["copy 9"], False))
     time.sleep(0.7)
@@ -122,11 +123,11 @@ def receipts(driver, fake):
     ann = "patron 1 owed 40 name Ann Bell\nloan 5 due 2026-03-09 renewals 1 title 100 Rivers of the North"
     fake.says(answers({"page 1": reply(ann), "check-out 1 10": reply("loan 5 due 2026-03-09"), "pay 1": reply("owed 40"), "pay 2": reply("owed 0"), "patron 2": reply("ok")}))
     desk.keys("1", Keys.ENTER, "10", Keys.ENTER)
-    for words in ("pay 1 60", "pay 2 30", "patron 2 1 cardkey00002 'Bo Carr'"):
+    for words in ("pay 1 0.60", "pay 2 0.30", "patron 2 1 cardkey00002 'Bo Carr'"):
         desk.type("words", words)
         desk.it("words").send_keys(Keys.ENTER)
     until("all is done", lambda: "patron 2 1 … Bo Carr: Done." in desk.items("last"))
-    rows = ["Rivers of the North, due on 2026-03-09", "Paid 0.60, still owed 0.40"]
+    rows = ["Rivers of the North, due 2026-03-09", "Paid 0.60, still owed 0.40"]
     need("the receipt", desk.items("receipt"), rows)
     driver.execute_cdp_cmd("Emulation.setEmulatedMedia", {"media": "print"})
     need("what is printed", driver.execute_script("return document.body.innerText").split("\n\n"), ["Receipt", f"Ann Bell, {time.strftime('%Y-%m-%d')}, branch 1", "\n".join(rows)])
@@ -169,7 +170,7 @@ def signed_out(driver, fake):
     page.type("title", "100")
     page.type("branch", "1")
     page.keys(Keys.ENTER)
-    until("not known", lambda: page.told().startswith("No answer yet"))
+    until("not known", lambda: page.told().startswith("No connection"))
     page.it("sign-out").click()
     asked = len(fake.sent)
     time.sleep(1.5)
@@ -181,7 +182,7 @@ def signed_out(driver, fake):
     desk.mode("check-in")
     desk.keys("1", Keys.ENTER, "2", Keys.ENTER)
     desk.it("sign-out").click()
-    need("what may have been done, and what wasn't", desk.told(), "The desk is closed. It is not known whether this was carried out: copy 1. This was not sent: copy 2.")
+    need("what may have been done, and what wasn't", desk.told(), "Signed out. It is not known whether this was carried out: copy 1. This was not sent: copy 2.")
     late.set()
     time.sleep(0.5)
     need("nothing is kept, sent or shown any more", (desk.stored(), fake.words(), desk.items("last")), ({}, ["check-in 1 1"], []))
@@ -197,7 +198,7 @@ def telephone(driver, fake):
     need("a button for each loan with a renewal left", [it.get_attribute("aria-label") for it in buttons], [f"Renew Title {it}" for it in range(1, 13, 2)])
     driver.execute_script("arguments[0].scrollIntoView({block: 'end'})", buttons[-1])
     ActionChains(driver).double_click(buttons[-1]).perform()
-    until("renewed", lambda: page.told() == "Loan 11, due on 2026-03-16.")
+    until("renewed", lambda: page.told() == "Loan 11, due 2026-03-16.")
     time.sleep(0.8)
     need("it is renewed once", [it for it in fake.words() if it.startswith("POST")], ["POST /patrons/1/loans/11/renew"])
     need("it is on the screen", is_on_screen(driver, "told"), True)
@@ -205,7 +206,7 @@ def telephone(driver, fake):
     page.type("title", "999")
     page.type("branch", "1")
     page.keys(Keys.ENTER)
-    until("refused", lambda: page.told() == "Refused (12): unknown title.")
+    until("refused", lambda: page.told() == "There is no such title.")
     need("it looks like a refusal, is on the screen, and the title stays", (page.is_wrong(), is_on_screen(driver, "told"), page.it("title").get_attribute("value")), (True, True, "999"))
     page.it("title").submit()
     until("a hold", lambda: page.told() == "Hold 3 is placed.")
@@ -220,10 +221,10 @@ def is_on_screen(driver, name):
 def opening(driver, fake):
     """The desk opens with a right key and a known branch alone, and shows where it is."""
     page = Desk(driver, fake.url, 1)
-    need("where and when", page.it("place").text, f"Town library, branch 1, {time.strftime('%Y-%m-%d')}")
+    until("where and when", lambda: page.it("place").text == f"Town library, branch 1, {fake.day}")
     page.it("sign-out").click()
     need("a closed desk is nowhere", page.it("place").text, "")
-    for answer, told in ((refusal(81), "Refused (81): wrong key, or not allowed to this caller."), (refusal(10), "Refused (10): unknown branch."),
+    for answer, told in ((refusal(81), "The key is wrong, or may not do this."), (refusal(10), "There is no such branch."),
                          ((0.0, 403, "<html>"), "This page can't read the answer (status 403). It is not known whether the request was carried out.")):
         fake.says(answers({"shelf 7 0": answer}))
         page.sign_in(7, "deskkey00009")
@@ -235,7 +236,7 @@ def opening(driver, fake):
         until("what isn't in its form isn't sent", lambda: page.told().startswith("This should be") and fake.sent == [])
     fake.says(answers({"shelf 2 0": [NOTHING, NOTHING, reply("      hold    copy  patron until      title\nend")]}))
     page.sign_in(2, "deskkey00001")
-    until("no answer is told", lambda: page.told() == "No answer. Trying again.")
+    until("no answer is told", lambda: page.told() == "No connection. We keep trying.")
     until("it opens once there is one", lambda: page.it("desk").is_displayed())
     need("the branch", page.it("place").text.split(", ")[1], "branch 2")
 
@@ -270,7 +271,8 @@ def scanners(driver, fake):
     need("nothing is sent", fake.sent, [])
     desk.go_on()
     desk.keys("99", Keys.ENTER)
-    until("a refused patron", lambda: desk.is_wrong() and "Refused" in desk.told())
+    until("a refused patron", lambda: desk.is_wrong() and desk.told().startswith("patron 99: "))
+    need("why", desk.told(), "patron 99: There is no such copy.")
     need("isn't the current one", desk.it("asked").text, "Scan or type the patron's number.")
 
 
@@ -307,7 +309,7 @@ def hands_at_the_desk(driver, fake):
     # money
     desk.mode("pay")
     desk.keys("4", Keys.ENTER, "60.00", Keys.ENTER, "0.50", Keys.ENTER)
-    until("much money", lambda: desk.told() == "Does patron 4 pay 60.00? If not, go on without it.")
+    until("much money", lambda: desk.told() == "Take 60.00 from Di Eck?")
     need("nothing is paid yet, and a scanner's Enter pays nothing", (desk.focus(), [it for it in fake.words() if it.startswith("pay")]), ("scan", []))
     desk.keys(Keys.ENTER)
     desk.it("again").click()
@@ -317,14 +319,358 @@ def hands_at_the_desk(driver, fake):
     need("it isn't sent", len([it for it in fake.words() if it.startswith("pay")]), 2)
 
 
+def loaded_anew(driver, fake):
+    """A tab that is loaded anew has the patron and the mode that were there, and nobody after Next patron."""
+    desk = Desk(driver, fake.url, 1)
+    fake.says(answers({"pay": reply("owed 0"), "check-out": reply("loan 1 due 2026-03-09")}))
+
+    def again():
+        driver.refresh()
+        until("the desk is open", lambda: desk.it("desk").is_displayed())
+        return driver.execute_script("return document.querySelector('input[name=mode]:checked').value"), desk.it("asked").text
+
+    desk.keys("4", Keys.ENTER)
+    until("its page", lambda: desk.it("patron").is_displayed())
+    desk.mode("pay")
+    need("while paying", again(), ("pay", "Patron 4: type the amount paid, such as 2.50."))
+    desk.keys("0.50", Keys.ENTER)
+    until("it is paid", lambda: "pay 4 50" in fake.words())
+    desk.mode("renew")
+    need("while renewing", again(), ("renew", "Scan a copy to renew."))
+    desk.it("next").click()
+    need("nobody after Next patron", again(), ("renew", "Scan a copy to renew."))
+    desk.mode("check-out")
+    need("nor in the next mode", again(), ("check-out", "Scan or type the patron's number."))
+    desk.keys("1", Keys.ENTER)
+    until("the next page", lambda: "page 1" in fake.words() and desk.it("patron").is_displayed())
+    desk.mode("check-in")
+    need("in Check-in nobody", again(), ("check-in", "Scan a copy to check in."))
+    need("nothing is lent", [it for it in fake.words() if it.startswith("check-out")], [])
+
+
+def nobody_stays(driver, fake):
+    """Nothing of a patron stays on the screen after Next patron, in Check-in and where the next card isn't known, also of answers that come later."""
+    bo = "patron 2 owed 40 name Bo Carr\nloan 2 due 2026-03-09 renewals 0 title 200 Salt Roads"
+    late = [threading.Event() for _ in range(3)]
+    fake.says(answers({"page 2": reply(bo), "page 9": refusal(11), "check-out": reply("loan 2 due 2026-03-09"),
+                       "account 2": reply("patron 2 owed 40 name Bo Carr\nline 1 2026-03-17 fine 40 loan 1 title 200 Salt Roads\nend")}))
+    desk = Desk(driver, fake.url, 1)
+
+    def is_free():
+        text = driver.execute_script("return document.body.innerText")
+        return [it for it in ("Bo Carr", "Salt Roads", "0.40", "patron 2", "Patron 2") if it in text]
+
+    def visit():
+        desk.mode("check-out")
+        desk.keys("2", Keys.ENTER, "20", Keys.ENTER)
+    visit()
+    until("it is lent", lambda: "Salt Roads" in desk.told())
+    desk.type("looked", "P2")
+    driver.find_element("css selector", "#looking button[value=account]").click()
+    until("the account", lambda: len(rows(desk)) == 1)
+    desk.it("next").click()
+    need("after Next patron", (is_free(), [desk.it(it).is_displayed() for it in ("patron", "visit", "list-paper")], desk.it("looked").get_attribute("value"), desk.focus()), ([], [False] * 3, "", "scan"))
+    desk.keys("9", Keys.ENTER)
+    until("a card that isn't known", lambda: desk.told() == "patron 9: There is no such patron.")
+    need("nobody", (is_free(), desk.it("patron").is_displayed()), ([], False))
+    desk.go_on()
+    # a refusal of the last scan goes with its patron, and the next card is sent at once
+    fake.says(answers({"page 2": reply(bo), "check-out": refusal(36), "copy 20": reply("copy 20 home 1 kind 1 price 1200 title 200 Salt Roads\nloan 9 due 2026-03-09 patron 8 Cy Dunn")}))
+    visit()
+    until("a refusal", lambda: desk.told().endswith("On loan to Cy Dunn, due 2026-03-09."))
+    time.sleep(0.7)
+    desk.it("next").click()
+    need("after Next patron", (is_free(), desk.told(), desk.it("stopped").is_displayed()), ([], "", False))
+    desk.keys("1", Keys.ENTER)
+    until("the next card", lambda: desk.it("patron").is_displayed() and desk.it("patron-head").text.startswith("Ann Bell"))
+    desk.it("next").click()
+    fake.says(answers({"page 2": reply(bo), "check-out": reply("loan 2 due 2026-03-09")}))
+    visit()
+    until("it is lent", lambda: "Salt Roads" in desk.told())
+    fake.says(answers({"account 1": reply("patron 1 owed 40 name Bo Carr\nend", late[2]), "page 2": reply(bo), "check-out": [reply("loan 2 due 2026-03-09", it) for it in late]}))
+    desk.type("looked", "P1")
+    driver.find_element("css selector", "#looking button[value=account]").click()
+    until("the account is asked for", lambda: "account 1 0" in fake.words())
+    desk.it("next").click()
+    late[2].set()
+    time.sleep(0.3)
+    need("what is looked up and answered later", is_free(), [])
+    for at, leave in enumerate((lambda: desk.it("next").click(), lambda: desk.mode("check-in"))):
+        visit()
+        until("it is being lent", lambda: len([it for it in fake.words() if it.startswith("check-out")]) == at + 1)
+        leave()
+        late[at].set()
+        until("it is lent", lambda: not desk.it("queue").is_displayed())
+        need("what is answered later", is_free(), [])
+
+
+def panel_of_now(driver, fake):
+    """The panel of the patron is of now after each command that changes it, scanned or typed, by fast hands before slow answers."""
+    desk = Desk(driver, fake.url, 1)
+    lines = {"loan": "loan 1 due 2026-03-09 renewals 1 title 200 Salt Roads", "hold": "hold 7 at 1 waiting title 300 Maps"}
+
+    def answer(what):
+        if what == "page 1":
+            return reply("\n".join(["patron 1 owed 0 name Ann Bell", *lines.values()]), 0.05)
+        if what == "check-in 20 1":
+            lines.pop("loan")
+        elif what == "cancel-hold 7":
+            lines.pop("hold")
+        elif what == "check-out 1 21 1":
+            lines["next"] = "loan 2 due 2026-03-16 renewals 1 title 400 Winter Bees"
+        elif what.startswith("amend-title"):
+            lines["next"] = "loan 2 due 2026-03-16 renewals 1 title 400 Bees"
+        else:
+            return answers({})(what)
+        return reply({"check-in": "fine 0 shelf 1", "check-out": "loan 2 due 2026-03-16"}.get(what.split()[0], "ok"), 0.05)
+    fake.says(answer)
+    desk.keys("1", Keys.ENTER)
+    until("her page", lambda: len(desk.items("patron-lines")) == 2)
+    for words in ("check-in 20 1", "cancel-hold 7"):
+        desk.it("words").send_keys(words, Keys.ENTER)
+    until("nothing is left", lambda: "cancel-hold 7" in fake.words() and desk.items("patron-lines") == [])
+    desk.keys("21", Keys.ENTER)
+    until("what is of now", lambda: desk.items("patron-lines") == ["Winter Bees, loan 2, due 2026-03-16, 1 renewal left"])
+    desk.it("words").send_keys("amend-title 400 Bees", Keys.ENTER)
+    until("the title of now", lambda: desk.items("patron-lines") == ["Bees, loan 2, due 2026-03-16, 1 renewal left"])
+
+
+def library_day(driver, fake):
+    """The day at the head, on receipts and on lists is the library's, loudly where it isn't the machine's."""
+    machine, fake.day = fake.day, "2026-03-02"
+    desk = Desk(driver, fake.url, 1)
+    fake.says(answers({"begin-day": reply("ok"), "pulls": reply("end")}))
+    until("the library's day", lambda: desk.it("place").text == "Town library, branch 1, 2026-03-02")
+
+    def looks():
+        return driver.execute_script("const it = getComputedStyle(document.getElementById('place')); return [it.color, parseFloat(it.fontSize) > 20]")
+    need("it is loud", (desk.it("other-day").text, looks()), (f"The library's day is 2026-03-02, but this machine's date is {machine}.", ["rgb(164, 0, 0)", True]))
+    need("the day of the till", desk.it("till-day").get_attribute("value"), "2026-03-02")
+    desk.keys("1", Keys.ENTER)
+    until("the receipt", lambda: desk.it("receipt-head").text == "Ann Bell, 2026-03-02, branch 1")
+    driver.find_element("css selector", "#list-buttons button[value=pulls]").click()
+    until("a list", lambda: desk.it("list-place").text == "branch 1, 2026-03-02")
+    need("320 pixels", desk.fits(320), True)
+    fake.day = machine
+    desk.type("words", f"begin-day {machine}")
+    desk.it("words").send_keys(Keys.ENTER)
+    until("the day that was begun", lambda: desk.it("place").text == f"Town library, branch 1, {machine}")
+    need("it isn't loud", (desk.it("other-day").text, looks()[1]), ("", False))
+
+
+def names(driver, fake):
+    """Names and titles stand by themselves, also from right to left; long ones break, and numbers and days in columns don't."""
+    sara, long, most = "שרה לוי 42", "W" * 120, 4294967295
+    page = f"patron 1 owed 40 name {sara}\nloan 5 due 2026-03-09 renewals 1 title 100 {long}\nhold {most} at 1 waiting from 2026-04-01 title 300 {sara}"
+    fake.says(answers({"page 1": reply(page), "check-out 1 10": reply("loan 5 due 2026-03-09"), "check-in 20": reply("fine 0 ready 7 at 1 until 2026-03-07"),
+                       "copy 20": reply(f"copy 20 home 1 kind 1 price 1200 title 200 {long}\nready 7 at 1 until 2026-03-07 patron 1 {sara}"),
+                       "overdue": reply(f"      loan  patron    copy due         late title\n{most} {most} {most} 2026-03-09     7 {long}\nend"),
+                       "GET /patrons/1": reply(page)}))
+    desk = Desk(driver, fake.url, 1)
+
+    def alone(within):
+        return driver.execute_script("return [...document.querySelectorAll(arguments[0] + ' bdi')].map((it) => it.textContent)", within)
+    desk.keys("1", Keys.ENTER, "10", Keys.ENTER)
+    until("it is lent", lambda: len(desk.items("receipt")) == 1)
+    need("what stands by itself", [alone(it) for it in ("#told", "#patron-head", "#patron-lines", "#receipt-head", "#receipt")], [[long, sara], [sara], [long, sara], [sara], [long]])
+    need("what is last", alone("#last")[:2], [long, sara])
+    need("320 pixels with what is told", desk.fits(320), True)
+    desk.it("words").send_keys("check-in 20 1", Keys.ENTER)
+    until("a slip", lambda: desk.it("slips").is_displayed())
+    need("what stands by itself on a slip", alone("#slip-list"), [sara, long])
+    driver.find_element("css selector", "#list-buttons button[value=overdue]").click()
+    until("a row", lambda: len(rows(desk)) == 1)
+    need("what stands by itself in a list", alone("#list-rows"), [long])
+    for pixels in (320, 900):
+        need(f"{pixels} pixels", desk.fits(pixels), True)
+        desk.width(pixels)
+        lines = driver.execute_script("return [...document.querySelectorAll('#list-rows td')].map((it) => { const of = document.createRange(); of.selectNodeContents(it); return [it.innerText, new Set([...of.getClientRects()].map((at) => at.top)).size]; })")
+        need("numbers and days don't break", [it for it, many in lines if many > 1], [long])
+        driver.execute_cdp_cmd("Emulation.clearDeviceMetricsOverride", {})
+    need("no name is empty", [it for it in desk.names() if not it[1]], [])
+    patron = sign_in(driver, fake)
+    need("what stands by itself at the patron's", [alone(it) for it in ("#name", "#loans", "#holds")], [[sara], [long], [sara]])
+    need("320 pixels for the patron", patron.fits(320), True)
+
+
+def next_patron(driver, fake):
+    """Next patron counts always: right after another one, while scans wait, where the page moves under the mouse, with something left in the line, and from another field."""
+    late = threading.Event()
+    slow = {"check-out 1 31": reply("loan 1 due 2026-03-09"), "check-out 4 32": reply("loan 2 due 2026-03-09"), "check-out 1 33": refusal(36, late), "check-out 4 34": reply("loan 3 due 2026-03-09")}
+    fake.says(answers(slow, 0.3))
+    desk = Desk(driver, fake.url, 1)
+
+    def alt_n(keys):
+        return keys.key_down(Keys.ALT).send_keys("n").key_up(Keys.ALT)
+
+    def lent():
+        return [it for it in fake.words() if it.startswith(("page", "check-out"))]
+    # two patrons within half a second, before the first answer
+    keys = alt_n(ActionChains(driver).send_keys("1", Keys.ENTER, "31", Keys.ENTER))
+    alt_n(keys.send_keys("4", Keys.ENTER, "32", Keys.ENTER)).perform()
+    need("a patron is wanted", (desk.it("asked").text, desk.focus()), ("Scan or type the patron's number.", "scan"))
+    until("all is sent", lambda: lent() == ["page 1", "check-out 1 31 1", "page 1", "page 4", "check-out 4 32 1", "page 4"] and not desk.it("queue").is_displayed())
+    # a refusal comes between pressing and letting go
+    fake.says(answers(slow))
+    desk.keys("1", Keys.ENTER, "33", Keys.ENTER)
+    until("it is sent", lambda: "check-out 1 33 1" in fake.words())
+    before = desk.it("next").rect["y"]
+    ActionChains(driver).click_and_hold(desk.it("next")).perform()
+    late.set()
+    until("a refusal", lambda: desk.is_wrong())
+    ActionChains(driver).release().perform()
+    need("it counts", (desk.it("asked").text, desk.focus(), desk.it("patron").is_displayed()), ("Scan or type the patron's number.", "scan", False))
+    need("what stopped the rest stays", desk.told().startswith("copy 33, patron 1: Another patron is waiting for this title."), True)
+    desk.go_on()
+    # what is left in the line isn't glued to the next card
+    desk.keys("4", Keys.ENTER, "34")
+    need("a refusal moved nothing", desk.it("next").rect["y"], before)
+    desk.it("next").click()
+    need("it is told", (desk.told(), desk.is_wrong(), desk.it("scan").get_attribute("value")), ("This was not sent: 34.", True, ""))
+    desk.keys("1", Keys.ENTER)
+    until("the next one", lambda: lent()[-1] == "page 1" and desk.it("patron").is_displayed())
+    need("nothing was lent meanwhile", [it for it in fake.words() if it.startswith("check-out 4")], [])
+    # from another field, and by the keyboard alone
+    desk.it("words").send_keys("check-")
+    alt_n(ActionChains(driver)).perform()
+    need("from another field", (desk.it("asked").text, desk.focus(), desk.it("words").get_attribute("value")), ("Scan or type the patron's number.", "scan", "check-"))
+    desk.keys("4", Keys.ENTER, Keys.TAB)
+    desk.keys(Keys.TAB)
+    need("the button has the focus", desk.focus(), "next")
+    desk.keys(Keys.ENTER)
+    need("by Enter", (desk.it("asked").text, desk.focus()), ("Scan or type the patron's number.", "scan"))
+
+
+def closed_pages(driver, fake):
+    """Who closes the page while scans wait is asked first, and what waited is there again at the next sign-in on this machine, with a question."""
+    first, desk = driver.current_window_handle, Desk(driver, fake.url, None)
+    driver.switch_to.new_window("tab")
+    late = threading.Event()
+    fake.says(answers({"check-in 11": reply("fine 0 shelf 1", late), "check-in": reply("fine 0 shelf 1")}))
+    driver.get(f"{fake.url}/pages/desk.html")
+    desk.sign_in(1, "deskkey00001")
+    until("it is open", lambda: desk.it("desk").is_displayed())
+
+    def asks():
+        return driver.execute_script("const it = new Event('beforeunload', {cancelable: true}); window.dispatchEvent(it); return it.defaultPrevented")
+    need("nothing waits", asks(), False)
+    desk.mode("check-in")
+    desk.keys("10", Keys.ENTER)
+    until("it came in", lambda: "To the shelf" in desk.told() and not desk.it("queue").is_displayed())
+    need("nothing waits any more", asks(), False)
+    desk.keys("11", Keys.ENTER, "12", Keys.ENTER, "13", Keys.ENTER)
+    need("it is asked", asks(), True)
+    key, second = next(key for what, key in fake.sent if what == "check-in 11 1"), driver.current_window_handle
+    driver.switch_to.window(first)
+    desk.sign_in(1, "deskkey00001")
+    until("a desk beside it is open", lambda: desk.it("desk").is_displayed())
+    time.sleep(0.2)
+    need("what waits in an open tab stays there", desk.items("waiting"), [])
+    desk.it("sign-out").click()
+    driver.switch_to.window(second)
+    driver.close()
+    driver.switch_to.window(first)
+    late.set()
+    fake.says(answers({"check-in": reply("fine 0 shelf 1")}))
+    desk.sign_in(1, "deskkey00001")
+    until("what waited is there", lambda: desk.items("waiting") == ["copy 11", "copy 12", "copy 13"])
+    need("with a question", (desk.told(), desk.is_wrong(), desk.it("send-on").is_displayed(), desk.it("throw-away").is_displayed()), ("These were waiting when the page was closed on this machine. Are they to be sent?", True, True, True))
+    need("nothing is sent yet", [it for it in fake.words() if it.startswith("check-in")], [])
+    desk.it("send-on").click()
+    until("all came in", lambda: [it for it in fake.words() if it.startswith("check-in")] == ["check-in 11 1", "check-in 12 1", "check-in 13 1"])
+    need("under its key", key in fake.keys(), True)
+    until("nothing waits", lambda: not desk.it("queue").is_displayed())
+    need("and nothing is kept", driver.execute_script("return Object.keys(localStorage)"), [])
+
+
+def keys_anywhere(driver, fake):
+    """Keys go to the line for scans from anywhere but a field that the clerk is in; after a refusal the focus is on it, and it is never under what is told."""
+    desk, late = Desk(driver, fake.url, 1), [threading.Event() for _ in range(3)]
+    many = "\n".join(f"hold {it} copy {it + 100} title {it} Title {it}" for it in range(1, 61))
+    wide = "W" * 120
+    fake.says(answers({"pulls": reply(f"{many}\nend"), "transits": refusal(10, 0.2), "check-in 2": [refusal(33, it) for it in late], "check-in": reply("fine 0 shelf 1"),
+                       "copy 2": reply(f"copy 2 home 1 kind 1 price 100 title 7 {wide}\nready 7 at 1 until 2026-03-07 patron 1 {wide}")}))
+    desk.mode("check-in")
+
+    def click(value):
+        driver.find_element("css selector", f"#list-buttons button[value={value}]").click()
+
+    def is_seen():
+        """The line is whole on the screen, and nothing lies over it."""
+        return driver.execute_script("""const it = document.getElementById('scan'), at = it.getBoundingClientRect();
+            return at.top >= 0 && at.bottom <= innerHeight && [2, at.height / 2, at.height - 2].every((y) => document.elementFromPoint(at.left + at.width / 2, at.top + y) === it);""")
+    # a refusal comes while a button has the focus, and the page is scrolled
+    for pixels, height in ((900, 600), (360, 480)):
+        desk.width(pixels, height)
+        desk.keys("2", Keys.ENTER)
+        until("it is sent", lambda: fake.words().count("check-in 2 1") == (1 if pixels == 900 else 2))
+        click("pulls")
+        until("many rows", lambda: len(rows(desk)) == 60)
+        driver.execute_script("document.getElementById('list-rows').lastElementChild.scrollIntoView()")
+        need("a button has the focus", desk.focus(), "")
+        late[0 if pixels == 900 else 1].set()
+        until("a refusal", lambda: desk.is_wrong() and wide in desk.told())
+        need("the focus is back on the line, which is seen", (desk.focus(), is_seen()), ("scan", True))
+        for far in (150, 300, 0):
+            driver.execute_script("window.scrollTo(0, arguments[0])", far)
+            desk.keys("7")
+            need(f"what is typed is seen from {far} pixels on", is_seen(), True)
+        desk.it("scan").clear()
+        need("what is told is on the screen too", is_on_screen(driver, "told"), True)
+        desk.go_on()
+    driver.execute_cdp_cmd("Emulation.clearDeviceMetricsOverride", {})
+    click("transits")
+    need("the button", desk.focus(), "")
+    until("a refused list", lambda: desk.it("list-told").text == "There is no such branch.")
+    need("the focus after it", desk.focus(), "scan")
+    # put in, and corrected and ended, from anywhere
+    click("pulls")
+    ActionChains(driver).send_keys("31").perform()
+    click("pulls")
+    driver.execute_script("document.activeElement.blur()")
+    ActionChains(driver).send_keys(Keys.BACKSPACE).send_keys("2").perform()
+    driver.execute_script("document.activeElement.blur()")
+    ActionChains(driver).send_keys(Keys.ENTER).perform()
+    until("it is sent", lambda: "check-in 32 1" in fake.words())
+    driver.execute_script("document.activeElement.blur(); const data = new DataTransfer(); data.setData('text', '40\\r\\n41'); document.body.dispatchEvent(new ClipboardEvent('paste', {clipboardData: data, cancelable: true, bubbles: true}))")
+    until("what is put in anywhere", lambda: "check-in 40 1" in fake.words() and "check-in 41 1" in fake.words())
+    # a field that the clerk is in keeps what is typed, also after a refusal
+    desk.keys("2", Keys.ENTER)
+    desk.it("words").send_keys("check-")
+    late[2].set()
+    until("a refusal", lambda: desk.is_wrong() and wide in desk.told())
+    desk.keys("in 50 1")
+    need("what is typed stands together", (desk.focus(), desk.it("words").get_attribute("value")), ("words", "check-in 50 1"))
+
+
+def misread(driver, fake):
+    """A line that isn't understood is told with its word, isn't sent and stays in its field; a scan that comes after it goes to its line once the clerk leaves the field."""
+    desk = Desk(driver, fake.url, 1)
+    fake.says(answers({"check-out": reply("loan 1 due 2026-03-09")}))
+    for line, told in (("chek-out 1 10 1", "Unknown command chek-out; the field offers them all."), ("check-out 1 x 1", "copy must be a number up to 4294967295, without a leading zero: x"),
+                       ("check-out 1", "Words after check-out: 1 instead of 3. PATRON COPY BRANCH")):
+        desk.type("words", line)
+        desk.keys(Keys.ENTER)
+        need("what is wrong", (desk.told(), desk.is_wrong()), (told, True))
+        need("the line stays, and is gone on with", (desk.it("words").get_attribute("value"), desk.focus(), fake.sent), (line, "words", []))
+    desk.keys(" 10 1", Keys.ENTER)
+    until("it is understood in the end", lambda: fake.words()[:1] == ["check-out 1 10 1"])
+    need("the field is empty", (desk.it("words").get_attribute("value"), desk.focus()), ("", "scan"))
+
+
 def rows(desk):
     return desk.items("list-rows")
 
 
 def printed(driver, button):
-    """The text that is printed by a button."""
+    """The text that is printed by the button of this name."""
+    return paper(driver, driver.find_element("id", button))
+
+
+def paper(driver, button):
+    """The text that is printed by a button, after how often something was printed since the page was loaded."""
     driver.execute_script("window.print = () => { window.prints = (window.prints ?? 0) + 1; }")
-    driver.find_element("id", button).click()
+    button.click()
     driver.execute_cdp_cmd("Emulation.setEmulatedMedia", {"media": "print"})
     text = driver.execute_script("return window.prints + '\\n' + document.body.innerText").replace("\t", " ")
     driver.execute_cdp_cmd("Emulation.setEmulatedMedia", {"media": ""})
@@ -332,12 +678,14 @@ def printed(driver, button):
 
 
 def lists(driver, fake):
-    """Lists of the branch are shown, go on where there is more, and are printed; a copy, a title and an account are looked up."""
+    """Lists of the branch are shown, go on where there is more, and are printed; a copy, a title and an account are looked up, and settings are shown."""
     desk = Desk(driver, fake.url, 1)
     many = "\n".join(f"hold {it} copy {it + 100} title {it} Title {it}" for it in range(1, 101))
     late = threading.Event()
     fake.says(answers({"pulls 1 0": [reply(f"{many}\nafter 100"), reply(f"{many}\nafter 100", late)], "pulls 1 100": reply("hold 101 copy 201 title 101 Last\nend"), "debts 0": reply("end"), "transits": refusal(10),
-                       "copy 20": reply("copy 20 home 2 kind 1 price 1200 title 200 Salt Roads\nloan 2 due 2026-03-09 patron 2 Bo Carr"), "account 2 0": (0.0, 403, "<html>"),
+                       "copy 20": reply("copy 20 home 2 kind 1 price 1200 title 200 Salt Roads\nloan 2 due 2026-03-09 patron 2 Bo Carr"),
+                       "missing-copies 0": reply("copy 30 home 1 title 300 Night Ferries\nend"), "loans 20 0": reply("loan 2 patron 2 made 2026-03-02 due 2026-03-09\nend"), "account 2 0": (0.0, 403, "<html>"),
+                       "branches 0": reply("branch 1 pickup 5 week ooooooc name Main\nend"), "closed-days 1 0": reply("end"), "rules 2 0": refusal(17),
                        "overdue": reply("what")}))
     driver.find_element("css selector", "#list-buttons button[value=pulls]").click()
     until("a hundred rows", lambda: len(rows(desk)) == 100)
@@ -346,28 +694,70 @@ def lists(driver, fake):
     until("the rest", lambda: len(rows(desk)) == 101)
     need("first and last", (rows(desk)[0], rows(desk)[-1], desk.it("more").is_displayed()), ("101 Title 1 1", "201 Last 101", False))
     paper = printed(driver, "print-list")
-    need("what is printed", (paper[0], paper[1:4], paper[-1], len(paper)), ("1", ["To be taken from the shelves", f"branch 1, {time.strftime('%Y-%m-%d')}", "Copy Title Hold"], "201 Last 101", 105))
+    need("what is printed", (paper[0], paper[1:4], paper[-1], len(paper)), ("1", ["Pull list", f"branch 1, {time.strftime('%Y-%m-%d')}", "Copy Title Hold"], "201 Last 101", 105))
+    # by a click on a column's head the rows are sorted by it, by a second one downwards, and so they are saved
+    heads = lambda: driver.find_elements(By.CSS_SELECTOR, "#list-columns th button")
+    heads()[0].click()
+    need("upwards", (rows(desk)[0], driver.switch_to.active_element.text), ("101 Title 1 1", "Copy"))
+    heads()[0].click()
+    need("downwards", (rows(desk)[0], rows(desk)[-1]), ("201 Last 101", "101 Title 1 1"))
+    need("what is said of it", [it.get_attribute("aria-sort") for it in driver.find_elements(By.CSS_SELECTOR, "#list-columns th")], ["descending", None, None])
+    driver.execute_script("window.saved = []; const make = URL.createObjectURL; URL.createObjectURL = (blob) => { blob.text().then((text) => window.saved.push(text)); return make.call(URL, blob); }; "
+                          "document.addEventListener('click', (event) => event.target.download && window.saved.push(event.target.download))")
+    desk.it("save-list").click()
+    until("it is saved", lambda: driver.execute_script("return window.saved.length") >= 1)
+    saved = [it for it in driver.execute_script("return window.saved") if it.startswith("Copy")]
+    need("what is saved", [it.split("\r\n")[:2] for it in saved], [["Copy,Title,Hold", "201,Last,101"]])
     # two lists are asked for, and the first is answered last
     for value in ("pulls", "debts"):
         driver.find_element("css selector", f"#list-buttons button[value={value}]").click()
     until("none", lambda: desk.it("list-told").text == "There are none.")
     late.set()
     time.sleep(0.5)
-    need("the list that was asked for last", (desk.it("list-head").text, rows(desk)), ("Who owes", []))
-    for value, told in (("transits", "Refused (10): unknown branch."), ("overdue", "This page can't read the answer (status 200). It is not known whether the request was carried out.")):
+    need("the list that was asked for last", (desk.it("list-head").text, rows(desk)), ("Patrons who owe", []))
+    for value, told in (("transits", "There is no such branch."), ("overdue", "This page can't read the answer (status 200). It is not known whether the request was carried out.")):
         driver.find_element("css selector", f"#list-buttons button[value={value}]").click()
         until(told, lambda: desk.it("list-told").text == told)
     desk.type("looked", "C20")
     desk.it("looked").send_keys(Keys.ENTER)
-    until("a copy", lambda: rows(desk) == ["20 Salt Roads 200 branch 2 12.00 Loan 2 of Bo Carr, due on 2026-03-09."])
+    until("a copy", lambda: rows(desk) == ["20 Salt Roads 200 branch 2 12.00 On loan to Bo Carr, due 2026-03-09."])
+    driver.find_element("css selector", "#looking button[value=loans]").click()
+    until("its loans", lambda: rows(desk) == ["2 2 2026-03-02 2026-03-09"])
+    driver.find_element("css selector", "#list-buttons button[value=missing-copies]").click()
+    until("the missing copies", lambda: rows(desk) == ["30 Night Ferries 300 branch 1"])
     desk.type("looked", "P2")
     driver.find_element("css selector", "#looking button[value=copy]").click()
     need("a card is no copy", desk.it("list-told").text, "This is a patron's card, but a copy is expected.")
     driver.find_element("css selector", "#looking button[value=account]").click()
     until("an answer that isn't understood", lambda: "(status 403)" in desk.it("list-told").text)
+    for value, of in (("branches", "1 Main Sun 5"), ("closed-days", None)):
+        driver.find_element("css selector", f"#setting-buttons button[value={value}]").click()
+        until(value, lambda: rows(desk) == ([of] if of else []))
+    need("the branch that they are of", desk.it("list-head").text, "Days closed singly, branch 1")
+    desk.type("ruled", "2")
+    desk.it("ruled").send_keys(Keys.ENTER)
+    until("no such kind", lambda: desk.it("list-told").text == "There is no such kind of patron.")
     need("no name is empty, and it fits a telephone", ([it for it in desk.names() if not it[1]], desk.fits(320)), ([], True))
     desk.it("sign-out").click()
     need("nothing of it stays", rows(desk), [])
+
+
+def past_their_day(driver, fake):
+    """Ready holds that are past their day have a button each, and one for all; each is unshelved once."""
+    desk = Desk(driver, fake.url, 1)
+    row = "{:>10} {:>7} {:>7} {:<10} {}"
+    lines = [row.format("hold", "copy", "patron", "until", "title")] + [row.format(hold, 10 + hold, 1, until, "Tides") for hold, until in ((1, "2026-01-02"), (2, "2999-01-02"), (3, "2026-01-03"), (4, "2026-01-04"))]
+    fake.says(answers({"shelf 1 0": reply("\n".join([*lines, "end"])), "unshelve": reply("shelf 1")}))
+    driver.find_element(By.CSS_SELECTOR, "#list-buttons button[value=shelf]").click()
+    until("the hold shelf", lambda: len(rows(desk)) == 4)
+    need("who is past", [it.endswith("Unshelve") for it in rows(desk)], [True, False, True, True])
+    need("all", (desk.it("unshelve-all").is_displayed(), desk.it("unshelve-all").text), (True, "Unshelve all 3 past their day"))
+    driver.find_elements(By.CSS_SELECTOR, "#list-rows button")[1].click()
+    until("it is unshelved", lambda: "unshelve 3" in fake.words())
+    need("its button is gone", [it.endswith("Unshelve") for it in rows(desk)], [True, False, False, True])
+    desk.it("unshelve-all").click()
+    until("so are the others", lambda: [it for it in fake.words() if it.startswith("unshelve")] == ["unshelve 3", "unshelve 1", "unshelve 4"])
+    need("no button is left", (driver.find_elements(By.CSS_SELECTOR, "#list-rows button"), desk.it("unshelve-all").is_displayed()), ([], False))
 
 
 def slips(driver, fake):
@@ -381,7 +771,17 @@ def slips(driver, fake):
     until("a book for the shelf", lambda: desk.told() == "Tides: To the shelf, branch 1. No fine.")
     need("what each was told", desk.items("last")[1:], ["check-in 11 1: Rivers of the North: In transit to branch 2, for Cy Dunn, hold 2. No fine.",
                                                        "check-in 20 1: Salt Roads: Ready for Bo Carr, hold 1, at branch 1 until 2026-03-07. No fine."])
-    need("the slips", printed(driver, "print-slips"), ["1", "Ready at branch 1 until 2026-03-07", "Hold 1, Bo Carr", "Salt Roads", "Copy 20", "To branch 2", "Hold 2, Cy Dunn", "Rivers of the North", "Copy 11"])
+    both = [["Ready at branch 1 until 2026-03-07", "Hold 1, Bo Carr", "Salt Roads", "Copy 20"], ["To branch 2", "Hold 2, Cy Dunn", "Rivers of the North", "Copy 11"]]
+    need("the slips", printed(driver, "print-slips"), ["1", *both[0], *both[1]])
+    # both outlive a reload, and so does what was told; and each can be printed by itself
+    notes = desk.items("last")
+    driver.refresh()
+    until("the slips are there again", lambda: desk.it("slips").is_displayed())
+    need("what was told is there again", desk.items("last"), notes)
+    need("the slips again", printed(driver, "print-slips"), ["1", *both[0], *both[1]])
+    for at, slip in enumerate(both, 1):
+        button = driver.find_element(By.CSS_SELECTOR, f"#slip-list article:nth-child({at}) button")
+        need("one slip", paper(driver, button), [str(at + 1), *slip])
     desk.it("put-away").click()
     need("they are put away", desk.it("slips").is_displayed(), False)
     # the patron's page, with until
@@ -413,7 +813,7 @@ def another_day(driver, fake):
     need("the field is gone", desk.it("typed").is_displayed(), False)
     desk.mode("pay")
     desk.keys("4", Keys.ENTER, "50.01", Keys.ENTER)
-    until("an amount is asked about", lambda: desk.it("again").is_displayed() and desk.it("again").text == "Yes, 50.01")
+    until("an amount is asked about", lambda: desk.it("again").is_displayed() and desk.it("again").text == "Take 50.01")
     need("no field", (desk.it("typed").is_displayed(), desk.it("typed").get_attribute("value")), (False, ""))
     time.sleep(0.7)
     desk.it("again").click()
@@ -421,7 +821,7 @@ def another_day(driver, fake):
     need("320 pixels", desk.fits(320), True)
 
 
-PARTS = (lists, slips, fast_scans, refused_scans, unread_answers, receipts, signed_out, telephone, opening, scanners, hands_at_the_desk, another_day)
+PARTS = (lists, past_their_day, slips, fast_scans, refused_scans, unread_answers, receipts, signed_out, telephone, opening, scanners, hands_at_the_desk, another_day, loaded_anew, nobody_stays, panel_of_now, library_day, names, next_patron, closed_pages, keys_anywhere, misread)
 
 
 def main():
