@@ -5,7 +5,8 @@
 
 A history is 25 requests of the desk, of all commands but `page`, after those that make a small library; in eight of the histories a question comes after each second one. Loans end late in
 them, within their grace days and past these. What each is answered is worked out by `tests/reference/desk_rules.py`, which shares nothing with the definitions; that the definitions give the same answers is a lemma, which the prover
-computes in a copy of the crate `model`. One lemma more has a wrong answer, and has to be rejected.
+computes in a copy of the crate `model`. A history that takes it more steps than a lemma may have is computed again as far as its first half. One lemma more has a wrong answer, and has to be
+rejected.
 """
 
 import json
@@ -54,6 +55,22 @@ def asked_histories(rng):
     return taken
 
 
+def missed(histories):
+    """The corrections that are accepted in none of the histories."""
+    accepted = {words[0] for its in histories for words, answer in its if answer == "ok"}
+    return [name for name in CORRECTIONS if name not in accepted]
+
+
+def drawn(rng, many):
+    """So many histories, drawn again until each correction is accepted in one of them if they are all."""
+    asked = asked_histories(rng)
+    for _ in range(DRAWN):
+        histories = (asked + [history(rng, False) for _ in range(many - ASKED)])[:many]
+        if many < HISTORIES or not missed(histories):
+            break
+    return histories
+
+
 def lemma(name, asked):
     commands = " ∷ ".join(as_term(words) for words, _ in asked)
     answers = " ∷ ".join(json.dumps(answer, ensure_ascii=False) for _, answer in asked)
@@ -66,8 +83,15 @@ unfolding digits reply_text reply_words routed_words day_text civil_of fold fold
 """
 
 
+def lemmas_of(histories):
+    """That the definitions answer each history so, by its number, and one lemma with a wrong last answer."""
+    lemmas = [(f"history_{at}", asked) for at, asked in histories]
+    *before, (words, answer) = lemmas[-1][1]
+    return [lemma(*it) for it in [*lemmas, ("wrong_answer", [*before, (words, f"{answer}0")])]]
+
+
 def errors_of(words, lemmas):
-    """The lemmas that a check of a copy of the crate with them rejects, and whether it came to an end."""
+    """The lemmas that a check of a copy of the crate with them rejects, those that it gives up as they take too many steps, and whether it came to an end."""
     with tempfile.TemporaryDirectory(prefix="definitions-") as room:
         for part in PARTS:
             shutil.copytree(f"{TOP}/crates/model/{part}", f"{room}/{part}")
@@ -77,7 +101,9 @@ def errors_of(words, lemmas):
             it.write(IMPORTS + "".join(lemmas))
         ran = subprocess.run(words, cwd=room, stdin=subprocess.DEVNULL, stdout=subprocess.PIPE, stderr=subprocess.STDOUT, encoding="utf-8", errors="replace", check=False)
     ended = re.search(r"^logic=(?:proved|not-proved)", ran.stdout, re.M)
-    return re.findall(r"RandomHistories\.antt:\d+:\d+: error: `?(\w*)", ran.stdout), bool(ended), ran.stdout
+    errors = re.findall(r"RandomHistories\.antt:\d+:\d+: error: `?(\w*)(.*)", ran.stdout)
+    long = {name for name, why in errors if "stopped at the step limit" in why}
+    return {name for name, _ in errors} - long, long, bool(ended), ran.stdout
 
 
 def main(words):
@@ -93,12 +119,13 @@ def main(words):
     if missing:
         sys.exit(f"the libraries {' '.join(missing)} are not there")
     rng = random.Random(seed)
-    histories = (asked_histories(rng) + [history(rng, False) for _ in range(many - ASKED)])[:many]
-    *before, (words, answer) = histories[-1]
-    wrong = [*before, (words, f"{answer}0")]
-    lemmas = [lemma(f"history_{at}", asked) for at, asked in enumerate(histories)]
-    rejected, ended, told = errors_of(command, [*lemmas, lemma("wrong_answer", wrong)])
-    differ = [name for name in rejected if name != "wrong_answer"]
+    histories = drawn(rng, many)
+    rejected, long, ended, told = errors_of(command, lemmas_of(enumerate(histories)))
+    if long:
+        halves = [(at, asked[: len(asked) // 2]) for at, asked in enumerate(histories) if f"history_{at}" in long]
+        early, still_long, ended, told_again = errors_of(command, lemmas_of(halves))
+        rejected, told = rejected | early | still_long, told + told_again
+    differ = sorted(rejected - {"wrong_answer"})
     asked = {words[0] for its in histories for words, _ in its}
     refused = {answer for its in histories for _, answer in its if answer.startswith("refused")}
     shown = Counter(words[0] for its in histories for words, answer in its if words[0] in QUESTIONS and has_rows(words, answer))
@@ -107,12 +134,11 @@ def main(words):
         print(told[-6000:])
     seldom = [name for name in QUESTIONS if not shown[name]] if many >= ASKED else []
     print(f"definitions: {many} histories of {REQUESTS} requests by the seed {seed}, with questions in {min(many, ASKED)}, {len(asked)} commands, {len(refused)} refusals and {fines} fines among them, "
-          f"{shown.total()} questions that were shown rows: {len(differ)} differ{', no rows for ' * bool(seldom)}{', '.join(seldom)}")
+          f"{shown.total()} questions that were shown rows: {len(differ)} differ, {len(long)} computed as far as their half{', no rows for ' * bool(seldom)}{', '.join(seldom)}")
     check("the check came to its end", bool(ended), True)
     check("the wrong answer is rejected", "wrong_answer" in rejected, True)
     check("each question was shown rows", seldom, [])
-    amended = {words[0] for its in histories for words, answer in its if answer == "ok"}
-    check("each correction was accepted", [name for name in CORRECTIONS if name not in amended] if many == HISTORIES else [], [])
+    check("each correction was accepted", missed(histories) if many == HISTORIES else [], [])
     for at in range(many):
         check(f"history {at} is answered so by the definitions", f"history_{at}" in differ, False)
 
