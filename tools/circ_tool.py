@@ -18,9 +18,13 @@ class Ended(Exception):
 
 
 def program():
-    """The program circ: the one beside this one, else the one on the path; None where there is none."""
-    beside = os.path.join(os.path.dirname(os.path.realpath(sys.argv[0])), "circ")
-    return beside if os.access(beside, os.X_OK) else shutil.which("circ")
+    """The program circ: the one beside this one, else the one on the path, else that of the checkout; None where there is none."""
+    here = os.path.dirname(os.path.realpath(sys.argv[0]))
+    if os.access(os.path.join(here, "circ"), os.X_OK):
+        return os.path.join(here, "circ")
+    launcher = os.path.join(os.path.dirname(here), "circ")
+    is_checkout = os.path.isfile(os.path.join(here, "program")) and os.access(launcher, os.X_OK)
+    return shutil.which("circ") or (launcher if is_checkout else None)
 
 
 def told_of_itself(words, usage, says):

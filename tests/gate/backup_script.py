@@ -67,9 +67,9 @@ class Machine:
     def runs(self, *words):
         return subprocess.run(words, capture_output=True, text=True, timeout=60, env=self.env(), check=False)
 
-    def begun(self, *words, by=(), **how):
+    def begun(self, *words, by=(), tool=BACKUP, **how):
         how = {"env": self.env(), **how}
-        return subprocess.Popen([*by, BACKUP, *words], stdout=subprocess.PIPE, stderr=subprocess.PIPE, text=True, **how)
+        return subprocess.Popen([*by, tool, *words], stdout=subprocess.PIPE, stderr=subprocess.PIPE, text=True, **how)
 
     def backed_up(self, *words, **how):
         """What a run prints, what it says on standard error, and its status."""
@@ -356,7 +356,7 @@ def created(folder):
     # with the package and without it, a library is made with its first day before anything is started
     with open(os.path.join(TOP, "docs", "OPERATIONS.md"), encoding="utf-8") as file:
         typed = re.findall(r"^    (.*)\n    systemctl enable --now circ.service ", file.read(), re.M)
-    check("what is typed before the start", typed, ["circ-create /var/lib/circ/town.db", "/usr/local/bin/circ-create /var/lib/circ/town.db"])
+    check("what is typed before the start", typed, ["circ-create /var/lib/circ/town.db"] * 2)
     # the unit asks before the program, which would make one
     with open(os.path.join(TOP, "docs", "operations", "circ.service"), encoding="utf-8") as file:
         runs = re.findall(r"^Exec(\w+)=/usr/local/bin/(\S+ \S+ \S+)", file.read(), re.M)
@@ -573,9 +573,17 @@ def others(folder):
     machine.bad("another run at work", [f"another backup is being made in {machine.backups}"], *words)
     os.close(held)
     check("it stops nothing", machine.calls(), [])
-    empty = os.path.join(machine.folder, "empty")
+    empty, apart = os.path.join(machine.folder, "empty"), os.path.join(machine.folder, "apart")
     os.mkdir(empty)
-    machine.bad("no circ", ["there is no circ to audit by, neither beside this program nor on the path"], *words, by=[sys.executable], env={"PATH": empty})
+    os.mkdir(apart)
+    # outside the checkout
+    for tool in (BACKUP, os.path.join(TOP, "tools", "circ_tool.py")):
+        shutil.copy(tool, apart)
+    machine.bad("no circ", ["there is no circ to audit by, neither beside this program nor on the path"], *words, by=[sys.executable], tool=os.path.join(apart, "backup"), env={"PATH": empty})
+    without = {**os.environ, "PATH": f"{empty}:{os.environ['PATH']}"}
+    if shutil.which("circ", path=without["PATH"]) is None:
+        out, err, status = machine.backed_up("--no-service", *words[:2], "9", env=without)
+        check("by that of the checkout", (err, status, whole(os.path.join(out[:-1], "town.db"))), ("", 0, whole(machine.path)))
     os.symlink(PROGRAM, os.path.join(empty, "circ"))
     none = "systemctl can't be run: No such file or directory"
     machine.bad("no systemctl", [none, none, none, none, "circ.service can't be started again", "circ.service can't be stopped"], *words, by=[sys.executable], env={"PATH": empty})

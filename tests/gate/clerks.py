@@ -29,7 +29,7 @@ from lib.messages import NOT_UNDERSTOOD, message
 from lib.program import program
 from lib.questions import every_question
 from lib.random_histories import Clerk
-from lib.runs import GROUND, circ, rows, say
+from lib.runs import GROUND, circ, rows
 from lib.serving import ANNS_PAGE, DESK_KEY, Serving, a_library, by_patron, free_port, put_keys, started, told
 from reference.desk_rules import ONLY_ASK, Library
 from reference.outer_forms import WORDS, read_keys, said
@@ -232,7 +232,8 @@ def as_shown(place):
     """The file of keys of docs/USING.md, and the two runs that it shows with it."""
     with open(os.path.join(TOP, "docs", "USING.md"), encoding="utf-8") as file:
         page = file.read().partition("\n### Keys of clerks\n")[2].partition("\n## ")[0]
-    shown, typed = [[line.strip() for line in block.splitlines()] for block in re.findall(r"((?:^    .*\n)+)", page, re.M)]
+    shown, *typed = [[line.strip() for line in block.splitlines()] for block in re.findall(r"((?:^    .*\n)+)", page, re.M)]
+    typed = [line for block in typed for line in block]
     folder = os.path.join(place, "shown")
     os.mkdir(folder)
     a_library(folder, "day.db")

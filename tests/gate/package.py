@@ -75,6 +75,14 @@ def text_of(path):
     return read(os.path.join(TOP, path)).decode()
 
 
+def as_packed(text):
+    """A document with the places and the commands of the package."""
+    text = text.replace("/usr/local/share/", "/usr/share/").replace("`./circ ", "`circ ").replace("\n    ./circ ", "\n    circ ")
+    for path, source in TOOLS.items():
+        text = text.replace(f"\n    {source} ", f"\n    {os.path.basename(path)} ")
+    return text
+
+
 def archive(package, part):
     """The members of a part of the package: of `--fsys-tarfile` or `--ctrl-tarfile`."""
     with tarfile.open(fileobj=io.BytesIO(run("dpkg-deb", part, package, text=False).stdout)) as tar:
@@ -163,7 +171,7 @@ def as_in_the_repository(place, package, program):
     for path, source in TOOLS.items():
         check(path, read(f"{root}/{path}").decode(), text_of(source).replace("#!/usr/bin/env python3", "#!/usr/bin/python3", 1))
     for path, source in DOCUMENTS.items():
-        check(path, read(f"{root}/{path}").decode(), text_of(source).replace("/usr/local/", "/usr/"))
+        check(path, read(f"{root}/{path}").decode(), as_packed(text_of(source)))
     for path, program_path in PAGES.items():
         told, page = run(f"{root}/{program_path}", "--help").stdout.split(), gzip.decompress(read(f"{root}/{path}")).decode()
         check(f"the words of {path} that --help tells", [it for it in told if it != "usage:" and it not in page.split()], [])
