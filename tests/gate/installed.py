@@ -478,6 +478,11 @@ def by_links(place):
     for name in ("whole", "relative", "of a link", os.path.join("deep", "folder", "back"), os.path.join("folder", "back")):
         told = run(os.path.join(there, name), "file", f"{place}/linked.db", "g1", "begin-day", "2026-03-02", cwd=place)
         check(f"the launcher by the link {name}", (told.returncode, told.stdout, told.stderr), (0, "ok\n", made if name == "whole" else ""))
+    # through a linked folder, whose .. is that of the folder to which it leads
+    os.symlink(os.path.join(TOP, "tools"), os.path.join(there, "tools"))
+    for tool in (["program"], ["page", "backup"]):
+        direct, linked = (run(os.path.join(it, "tools", tool[0]), *tool[1:]) for it in (TOP, there))
+        check(f"{tool[0]} by a linked folder", (linked.returncode, linked.stdout, linked.stderr), (0, direct.stdout, ""))
     told = run("sh", "-c", 'cd "$0" && ./relative file "$1" g1 begin-day 2026-03-02', there, f"{place}/linked.db")
     check("the launcher by a link in this folder", (told.returncode, told.stdout), (0, "ok\n"))
     told = run("sh", "-c", 'PATH="$0:$PATH"; relative file "$1" g1 begin-day 2026-03-02', there, f"{place}/linked.db")
