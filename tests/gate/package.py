@@ -140,8 +140,10 @@ def contents(package, date):
     return files
 
 
-def fields(package, files, program, maintainer):
-    """The control file."""
+def fields(package, files, program):
+    """The control file. Whom to ask stands in a file of its own, so whoever commits changes nothing of it."""
+    maintainer = text_of("tools/deb/maintainer").removesuffix("\n")
+    check("the maintainer", bool(re.fullmatch(r"[\w. -]+ <[\w.+-]+@[\w.-]+>", maintainer)), True)
     found = run("dpkg-deb", "-f", package).stdout
     lines = dict(line.split(": ", 1) for line in found.splitlines() if not line.startswith(" "))
     size = sum(-(-len(body) // 1024) for body in files.values()) + len(folders_of(files)) - 1
@@ -332,7 +334,7 @@ def without_git(place, files, name):
     check("a package without git", (told.returncode, told.stdout, told.stderr), (0, f"copy/{name}\n", ""))
     found = contents(f"{copy}/{name}", date_of(False))
     check("its files", found, {**files, "usr/bin/circ": read(small)})
-    fields(f"{copy}/{name}", found, small, "circ")
+    fields(f"{copy}/{name}", found, small)
     told = run(f"{copy}/package", "copy", cwd=place, env={**os.environ, "SOURCE_DATE_EPOCH": str(ANOTHER_DATE)})
     contents(f"{copy}/{name}", ANOTHER_DATE)
     refuses("a date that is none", "package: SOURCE_DATE_EPOCH is no number of seconds: today", env={**os.environ, "SOURCE_DATE_EPOCH": "today"})
@@ -378,7 +380,7 @@ def main():
         check("nothing beside them", (os.listdir(here), os.listdir(there), os.listdir(f"{place}/handed down")), ([name], [name], []))
         has_git = os.path.exists(os.path.join(TOP, ".git"))
         files = contents(f"{here}/{name}", date_of(has_git))
-        part(fields, f"{here}/{name}", files, program, last_commit("%an <%ae>") if has_git else "circ")
+        part(fields, f"{here}/{name}", files, program)
         part(as_in_the_repository, place, f"{here}/{name}", program)
         part(without_git, place, files, name)
         part(scripts, place)
