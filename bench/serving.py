@@ -1,4 +1,5 @@
-"""The program serving a library over loopback, and the tools that ask it, as the scripts beside this one measure it."""
+"""The program serving a library over loopback, and the tools that ask it, as the scripts beside this one measure
+it."""
 
 import importlib.machinery
 import importlib.util
@@ -69,8 +70,8 @@ def said(answer):
 
 
 def ab(url, at_once, seconds, card, beside=None):
-    """Requests a second of one target with a card key, each a connection of its own, and the 99th percentile of a request in milliseconds, by ab:
-    for so many seconds, or as long as another run lasts."""
+    """Requests a second of one target with a card key, each a connection of its own, and the 99th percentile of a
+    request in milliseconds, by ab: for so many seconds, or as long as another run lasts."""
     with tempfile.NamedTemporaryFile("r") as file:
         words = ["ab", "-q", "-l", "-t", str(seconds), "-n", "1000000", "-c", str(at_once), "-e", file.name, "-H", f"Card-Key: {card}", url]
         run = subprocess.Popen(words, stdout=subprocess.PIPE, stderr=subprocess.PIPE, text=True)
@@ -95,7 +96,8 @@ def posted(run):
 
 
 class Serving:
-    """The program serving a library: with so many workers, each of which answers so many connections, under another program where one is named, and with a file of keys where that is."""
+    """The program serving a library: with so many workers, each of which answers so many connections, under another
+    program where one is named, and with a file of keys where that is."""
 
     def __init__(self, path, workers, each=1_000_000, before=(), key=KEY):
         self.port = free_port()

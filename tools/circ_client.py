@@ -74,7 +74,8 @@ def first_key(path):
 
 
 class Desk:
-    """The desk that serves on a port of this machine. A request that gets no answer is sent again under its key for `patience` seconds."""
+    """The desk that serves on a port of this machine. A request that gets no answer is sent again under its key for
+    `patience` seconds."""
 
     def __init__(self, port, key, patience=0):
         self.port, self.key, self.patience = port, key, patience

@@ -18,7 +18,8 @@ class Ended(Exception):
 
 
 def program():
-    """The program circ: the one beside this one, else the one on the path, else that of the checkout; None where there is none."""
+    """The program circ: the one beside this one, else the one on the path, else that of the checkout; None where there
+    is none."""
     here = os.path.dirname(os.path.realpath(sys.argv[0]))
     if os.access(os.path.join(here, "circ"), os.X_OK):
         return os.path.join(here, "circ")

@@ -1,12 +1,14 @@
 #!/usr/bin/env python3
-"""Compares the alternatives that public contracts offer with those of `tests/data/alternatives.txt`, where each case is tied to its cause, or a line says why it can't be.
+"""Compares the alternatives that public contracts offer with those of `tests/data/alternatives.txt`, where each case
+is tied to its cause, or a line says why it can't be.
 
     tests/gate/alternatives.py            compares
     tests/gate/alternatives.py --list     prints the alternatives of the sources, crate by crate, each with how many cases it has at least
 
-A clause that offers cases is as weak as the one that isn't tied to what makes it so: a body may always answer that one. So each definition of `crates/*/specs` is listed
-that a clause of a public function or of a public trait's function leads to, and that offers cases, as OFFERS finds them; and so is each of these functions of which
-a clause offers some itself. The head of the file says how it is read. Each edit and each name of code that it has is there.
+A clause that offers cases is as weak as the one that isn't tied to what makes it so: a body may always answer that
+one. So each definition of `crates/*/specs` is listed that a clause of a public function or of a public trait's
+function leads to, and that offers cases, as OFFERS finds them; and so is each of these functions of which a clause
+offers some itself. The head of the file says how it is read. Each edit and each name of code that it has is there.
 """
 
 import os
@@ -18,9 +20,11 @@ from lib.checking import check, fails, none, run_script
 from contracts import CRATES, files, functions, imported, read
 
 FILE = "tests/data/alternatives.txt"
-# What offers cases in a definition: this or that, a case for each form of a result or an option, the fault that came or none, or an arm that says nothing.
+# What offers cases in a definition: this or that, a case for each form of a result or an option, the fault that came
+# or none, or an arm that says nothing.
 OFFERS = r"⊎|\b(?:MatchBool|MatchOption|MatchResult|IfErr)\b|\bOption (?:Fault|ServiceFault|Refusal)\b|\b(?:None|Read|Memory|Gone|Untold)\b[^=\n]*= Unit \{0\}"
-# And in a clause, which may also say what a yes means, or what was found, and nothing of a no and of none; that faults are of one number offers nothing.
+# And in a clause, which may also say what a yes means, or what was found, and nothing of a no and of none; that faults
+# are of one number offers nothing.
 CLAUSE_OFFERS = r"⊎|\b(?:MatchBool|MatchOption|MatchResult)\b|\bIsTrue (?:result|none) →|\bIfSome (?:result|found)\b|\bIfErr result (?!\(λ fault\. fault ≡ [\w.]+\))"
 STARTS = r"^ *(?:abbrev pub|unfoldable pub|pub record|pub data) (\w+)|^(?:  )?pub (?!use |mod |record |data )(\w+) :"
 KINDS = ("tied by ", "given: ", "can't be tied: ")

@@ -1,5 +1,6 @@
 #!/usr/bin/env python3
-"""The program that stands in the repository: it runs at once where none is built, also without the toolchain, and never where it is damaged.
+"""The program that stands in the repository: it runs at once where none is built, also without the toolchain, and
+never where it is damaged.
 
     tests/gate/at_hand.py
 """

@@ -4,8 +4,9 @@
     tests/gate/audit.py            all of it
     tests/gate/audit.py SEED       the random damage by that seed
 
-The laws stand below once more in plain Python, written from docs/RULES.md (`laws_of`). The damage of `DAMAGE` has answers that were
-worked out by hand, and one damage at least for each case of each law; the random damage is compared with `laws_of` alone.
+The laws stand below once more in plain Python, written from docs/RULES.md (`laws_of`). The damage of `DAMAGE` has
+answers that were worked out by hand, and one damage at least for each case of each law; the random damage is compared
+with `laws_of` alone.
 """
 
 import os
@@ -22,9 +23,9 @@ import room  # finds lib and reference
 from lib.checking import check, part, run_script
 from lib.runs import CIRC, GROUND, ROOM, circ, digest, memory_of, rows, say, whole, write
 
-# After the small library: a loan that ended with a fine, which was paid and waived in part, a copy on loan, one that is lost, one that
-# travels for a hold, one that stands ready for another, a hold that waits, and one from a day on. Days: 2026-03-17 is 20529, 2026-03-23 is 20535,
-# 2026-04-01 is 20544.
+# After the small library: a loan that ended with a fine, which was paid and waived in part, a copy on loan, one that
+# is lost, one that travels for a hold, one that stands ready for another, a hold that waits, and one from a day on.
+# Days: 2026-03-17 is 20529, 2026-03-23 is 20535, 2026-04-01 is 20544.
 BUSY = [
     ("a1", ["check-out", "1", "11", "1"], "loan 1 due 2026-03-09"),
     ("a2", ["begin-day", "2026-03-17"], "ok"),
@@ -141,7 +142,8 @@ DAMAGE = [
     # claims come before bindings, and these before balances
     (["UPDATE copies SET condition = 1 WHERE copy = 30", "UPDATE holds2 SET limit_day = NULL WHERE hold = 2", "UPDATE patrons SET owed = 0"], "unsound claims 30"),
     (["UPDATE holds2 SET copy = 40 WHERE hold = 3", "UPDATE patrons SET owed = 0"], "unsound binding 3"),
-    # a row in a table of older schemas: the least of the first such table, by the last number of its key, once all laws hold
+    # a row in a table of older schemas: the least of the first such table, by the last number of its key, once all
+    # laws hold
     ([OLD_RULE.format(2, 1), OLD_RULE.format(1, 9), OLD_RULE.format(1, 99)], "unsound numbers rules 9"),
     ([OLD_LOAN.format(2147483647), OLD_LOAN.format(5)], "unsound numbers loans 5"),
     ([OLD_LOAN.format(2147483647)], "unsound numbers loans 2147483647"),
@@ -193,7 +195,8 @@ FAULTS = [
     (["DROP TABLE transits"], "fault 91"),
 ]
 
-# A library with more rows of each table that grows than are read at once, which the texts of `FAR` damage past the first of them.
+# A library with more rows of each table that grows than are read at once, which the texts of `FAR` damage past the
+# first of them.
 MANY, FIRST = 2_345, 10_000
 LAST = FIRST + MANY - 1
 FAR = [
@@ -296,8 +299,9 @@ def found(library, folder, at, texts, line):
 
 
 def fill(path):
-    """More rows of each table that grows than are read at once, with which the library is sound: each loan ended with a fine that was paid,
-    each hold is cancelled, each copy travels, and much is kept for the desk, for one patron, and for each patron."""
+    """More rows of each table that grows than are read at once, with which the library is sound: each loan ended with
+    a fine that was paid, each hold is cancelled, each copy travels, and much is kept for the desk, for one patron, and
+    for each patron."""
     numbers = range(FIRST, LAST + 1)
     lines = [(FIRST + 2 * at + more, n, 20529, sort, 240, n if sort == FINE else None) for at, n in enumerate(numbers) for more, sort in ((0, FINE), (1, 2))]
     kept = [(owner, f"{letter}{n}", "page 1", "ok") for owner, letter in ((0, "k"), (1, "p")) for n in numbers] + [(n, "own", "page 1", "ok") for n in numbers]
@@ -320,7 +324,8 @@ PAST = 100_000
 
 
 def the_past(ground, folder):
-    """An audit takes about the memory of opening the file, however many loans have ended and however much is kept of requests."""
+    """An audit takes about the memory of opening the file, however many loans have ended and however much is kept of
+    requests."""
     path, out = os.path.join(folder, "past.db"), os.path.join(folder, "past.txt")
     shutil.copy(ground, path)
     with closing(sqlite3.connect(path)) as conn, conn:

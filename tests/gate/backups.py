@@ -1,6 +1,7 @@
 #!/usr/bin/env python3
-"""What docs/OPERATIONS.md says of the two files of a library: both, of a program that was stopped at any moment or that ended, are the library, and it goes on from them. A log whose file
-is missing or empty is refused and kept, and so is the log of another process. What a stop leaves of a library that was being made is told.
+"""What docs/OPERATIONS.md says of the two files of a library: both, of a program that was stopped at any moment or
+that ended, are the library, and it goes on from them. A log whose file is missing or empty is refused and kept, and so
+is the log of another process. What a stop leaves of a library that was being made is told.
 
     tests/gate/backups.py
 """
@@ -56,8 +57,8 @@ def kill_after(path, library, requests):
 
 
 def stopped(folder):
-    """A program that serves is killed between requests: its two files, copied to another place, have all that was answered; and the requests after it, sent there,
-    leave what they leave."""
+    """A program that serves is killed between requests: its two files, copied to another place, have all that was
+    answered; and the requests after it, sent there, leave what they leave."""
     path, restored, library, requests = os.path.join(folder, "stopped.db"), os.path.join(folder, "restored.db"), Library(), month()
     half = len(requests) // 2
     kill_after(path, library, requests[:half])
@@ -82,8 +83,9 @@ def empty(path):
 
 
 def a_log_alone(folder):
-    """The log of a killed program, where the library's file is missing, empty, or an empty one to which a link leads. Each run says what to do, makes no library, and leaves each byte; once
-    the file is back the library is whole, and once the log is away a new one is made. A log without a page, which a run leaves that ended, hinders nobody."""
+    """The log of a killed program, where the library's file is missing, empty, or an empty one to which a link leads.
+    Each run says what to do, makes no library, and leaves each byte; once the file is back the library is whole, and
+    once the log is away a new one is made. A log without a page, which a run leaves that ended, hinders nobody."""
     path, copies, library = os.path.join(folder, "whole.db"), os.path.join(folder, "copies.csv"), Library()
     kill_after(path, library, month()[:40])
     with open(copies, "w", encoding="utf-8") as file:
@@ -122,7 +124,8 @@ def a_log_alone(folder):
 
 
 def the_log_of_another(folder):
-    """A run that begins where no log is, and whose file another process has: the log that this process makes meanwhile, still without a page, is there when the run ends with 91."""
+    """A run that begins where no log is, and whose file another process has: the log that this process makes
+    meanwhile, still without a page, is there when the run ends with 91."""
     path, hits = os.path.join(folder, "others.db"), 0
     say(path, GROUND[:1])
     with open(path + "-wal", "rb") as file:
@@ -159,8 +162,9 @@ def left_of(path):
 
 
 def made_and_killed(folder):
-    """A run that makes a library is killed at each of its writes, before it and in its middle. Where the file has no bytes yet a new library is made; where its first page isn't whole yet, or
-    there are no tables, that is told as no library, again and again; and else the library is there."""
+    """A run that makes a library is killed at each of its writes, before it and in its middle. Where the file has no
+    bytes yet a new library is made; where its first page isn't whole yet, or there are no tables, that is told as no
+    library, again and again; and else the library is there."""
     library, hits = os.path.join(folder, "stop.so"), Counter()
     subprocess.run(["cc", "-O2", "-shared", "-fPIC", "-o", library, f"{TOP}/tests/data/stop.c"], check=True)
     for place, how in (("before", {}), ("middle", {"HALF": "1"})):

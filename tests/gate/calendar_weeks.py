@@ -4,8 +4,8 @@
     tests/gate/calendar_weeks.py              has the program `calendar_tests` answer
     tests/gate/calendar_weeks.py --sample     prints the answers to lines of input whose looks are known to the last one
 
-The program's looks at single closed days are compared too: a search among n days, by halves, takes at least the whole part of
-log2(n + 1) of them and at most one more, and what comes after the search is known exactly.
+The program's looks at single closed days are compared too: a search among n days, by halves, takes at least the whole
+part of log2(n + 1) of them and at most one more, and what comes after the search is known exactly.
 """
 
 import itertools

@@ -4,9 +4,11 @@
     tests/gate/changing.py            compares
     tests/gate/changing.py --write    writes the table of counts anew
 
-A list of files stands below a mark `files of WORD, ..` or `some files of WORD, ..`. Its items name a folder, and the items below them files in it, or files
-by their whole path; NAME stands for a word's own name, and * for any part of one. Each file that is named has to name one of the words, by tests/tools/command_files. After `files of` each file of
-`src`, `specs`, `proofs` and the pages that names the first word has to be in the list too. Every other path of the document is there.
+A list of files stands below a mark `files of WORD, ..` or `some files of WORD, ..`. Its items name a folder, and the
+items below them files in it, or files by their whole path; NAME stands for a word's own name, and * for any part of
+one. Each file that is named has to name one of the words, by tests/tools/command_files. After `files of` each file of
+`src`, `specs`, `proofs` and the pages that names the first word has to be in the list too. Every other path of the
+document is there.
 """
 
 import os

@@ -1,12 +1,14 @@
 #!/usr/bin/env python3
-"""Each check of each command as the first that fails, and each form of a reply: by words, by the bytes of POST /desk, and a
-patron's by the patrons' routes.
+"""Each check of each command as the first that fails, and each form of a reply: by words, by the bytes of POST /desk,
+and a patron's by the patrons' routes.
 
-Each list of requests has a new library: a copy of the small one that the fifteen requests of `GROUND` make. Its answers are those
-of docs/RULES.md, worked out by hand; the rules in plain Python (`desk_rules`) say them once more. The desk's lists are run by words on one library and by POST /desk on another, and end in the same rows. In the patrons' lists a line
-that begins with a number and a card key is what that patron asks by the routes. Which checks there are, and which forms, is read
-from the table of commands in docs/RULES.md, and from what it says of the desk's questions, so that none is left out. So a program that tells a fault to each renewal, or to any
-other kind of request, fails here: no clause can say that there is memory.
+Each list of requests has a new library: a copy of the small one that the fifteen requests of `GROUND` make. Its
+answers are those of docs/RULES.md, worked out by hand; the rules in plain Python (`desk_rules`) say them once more.
+The desk's lists are run by words on one library and by POST /desk on another, and end in the same rows. In the
+patrons' lists a line that begins with a number and a card key is what that patron asks by the routes. Which checks
+there are, and which forms, is read from the table of commands in docs/RULES.md, and from what it says of the desk's
+questions, so that none is left out. So a program that tells a fault to each renewal, or to any other kind of request,
+fails here: no clause can say that there is memory.
 """
 
 import copy
@@ -28,7 +30,8 @@ from reference.desk_rules import FIRST_FOLDED, OVERDUE_HEAD, PATRONS_COMMANDS, Q
 from reference.desk_rules import LETTERS as RULED_LETTERS
 from reference.outer_forms import WORDS, said
 
-# A line: the words and the answer, whose lines are parted by strokes; `weekly N` before it asks N times, each with a last word that is a week later, `counted N` with a second word that is one more.
+# A line: the words and the answer, whose lines are parted by strokes; `weekly N` before it asks N times, each with a
+# last word that is a week later, `counted N` with a second word that is one more.
 DESK = """
 begin-day 2026-03-02 -> refused 23
 begin-day 2191-01-01 -> refused 23
@@ -729,7 +732,8 @@ card-key 1 cardkey00001 -> ok
 
 # The form of the page of a patron with no loan and no hold.
 PAGE = "patron P owed N name NAME"
-# The lines of the reports, of which docs/RULES.md tells the columns. The forms are patterns, in which capitals stand as in those that it has.
+# The lines of the reports, of which docs/RULES.md tells the columns. The forms are patterns, in which capitals stand
+# as in those that it has.
 OF_REPORTS = {
     "overdue": [OVERDUE_HEAD, " +LOAN +PATRON +COPY DAY +LATE TEXT"],
     "shelf": [SHELF_HEAD, " +HOLD +COPY +PATRON DAY TEXT"],
@@ -825,7 +829,8 @@ def commands():
 
 
 def forms_of_questions(text):
-    """The forms of the lines that each question is answered by, as docs/RULES.md has them: of a copy, a borrower, today, the lists, and the till report. PLACE is left as it is where nobody is told with it."""
+    """The forms of the lines that each question is answered by, as docs/RULES.md has them: of a copy, a borrower,
+    today, the lists, and the till report. PLACE is left as it is where nobody is told with it."""
     told = re.search(r"^A copy is shown in two lines, ([^(]*)", text, re.MULTILINE)[1]
     forms = {"copy": re.findall("`(.*?)`", told), "till": OF_REPORTS["till"]}
     check("a copy, and how many forms its place has", len(forms["copy"]), 8)
@@ -847,7 +852,8 @@ def has_form(answer, form):
 
 
 def none_is_left_out(lines, wanted):
-    """Each check comes as the first that fails, and each form of a line of a reply; a question is answered by no others, but that a list goes on."""
+    """Each check comes as the first that fails, and each form of a line of a reply; a question is answered by no
+    others, but that a list goes on."""
     answers = {name: [line.answer for line in lines if line.words[0] == name] for name in wanted}
     for name, (numbers, forms) in wanted.items():
         check(f"checks of {name}", [it for it in numbers if f"refused {it}" not in answers[name]], [])

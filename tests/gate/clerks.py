@@ -1,10 +1,12 @@
 #!/usr/bin/env python3
-"""Runs `circ serve` and `circ send` with a file of keys: which files are good, whom each clerk's key lets in, and whose hand each accepted request was.
+"""Runs `circ serve` and `circ send` with a file of keys: which files are good, whom each clerk's key lets in, and
+whose hand each accepted request was.
 
     tests/gate/clerks.py
 
-Which line of a file is wrong, and the answers of single requests, are worked out by hand from docs/RULES.md. Clerks who come at once are compared with `desk_rules`: each answer has to be that of the rules at
-some place of the list that the file kept, after what was answered before it and before what was sent later.
+Which line of a file is wrong, and the answers of single requests, are worked out by hand from docs/RULES.md. Clerks
+who come at once are compared with `desk_rules`: each answer has to be that of the rules at some place of the list that
+the file kept, after what was answered before it and before what was sent later.
 """
 
 import os
@@ -201,7 +203,8 @@ def words_of_keys(place):
                       ["serve", absent, port, "1", f"@{keys}"], ["send", "0", f"@{keys}", "s1", "today"], ["send", port, f"@{keys}", "s 1", "today"], ["send", port, f"@{keys}", "s1"], ["send", port, f"@{keys}", "ann/s1", "today"],
                       ["file", absent, f"@{keys}", "today"]):
             tried(words, NOT_UNDERSTOOD, 4)
-    # a word of the command that isn't understood is the desk's to tell, so the file is read before; nobody listens on this port, and nobody else takes it
+    # a word of the command that isn't understood is the desk's to tell, so the file is read before; nobody listens on
+    # this port, and nobody else takes it
     with socket.socket() as taken:
         taken.bind(("127.0.0.1", 0))
         tried(["send", str(taken.getsockname()[1]), f"@{path}", "s1", "today", "1"], "fault network\n", 3)
@@ -356,7 +359,8 @@ EACH += every_question(P="1", C="10", B="1", T="100", K="1", N="2026-03-02", A="
 
 
 def lending(place):
-    """A lending clerk sends every command and question, each before and after a clerk of the desk does: it is answered as the rules say, and what it may not send changes nothing, whatever was kept before."""
+    """A lending clerk sends every command and question, each before and after a clerk of the desk does: it is answered
+    as the rules say, and what it may not send changes nothing, whatever was kept before."""
     path, library, told_of = a_library(place, "lending.db"), Library(), Counter()
     for key, words, _ in GROUND:
         library.handle(key, words)
@@ -375,8 +379,9 @@ def lending(place):
 
 
 def over_the_years(place):
-    """One library under one file of keys after another, under a bare key and by `circ file`: a name stays one person's, also with another key or another role; who isn't in the file any more is nobody; and keys of requests meet just where
-    the name is the same."""
+    """One library under one file of keys after another, under a bare key and by `circ file`: a name stays one
+    person's, also with another key or another role; who isn't in the file any more is nobody; and keys of requests
+    meet just where the name is the same."""
     path, library = a_library(place, "years.db"), Library()
     for key, words, _ in GROUND:
         library.handle(key, words)
@@ -434,7 +439,8 @@ TOLD = {
 
 
 def who_did_it(place):
-    """The queries of docs/OPERATIONS.md, on a backup: whose hand a loan, its end, a hold, a payment and a waiver was."""
+    """The queries of docs/OPERATIONS.md, on a backup: whose hand a loan, its end, a hold, a payment and a waiver
+    was."""
     path = a_library(place, "who.db")
     with Serving(path, len(HANDS), clerks=CLERKS) as serving:
         for who, key, text, answer in HANDS:
@@ -462,7 +468,8 @@ TURNS = 110  # of each clerk
 
 
 class Hand:
-    """What one clerk sends: new requests, some under keys that others use too, own ones again, those of others again, and other requests under own keys."""
+    """What one clerk sends: new requests, some under keys that others use too, own ones again, those of others again,
+    and other requests under own keys."""
 
     def __init__(self, clerk, number, shared, seed):
         self.name, self.role, self.key = clerk
@@ -491,13 +498,15 @@ class Hand:
 
 
 class Shared:
-    """What the clerks know of one another: what was sent, which keys were asked with and which were answered as accepted, in the order in which it was, and about how the library is."""
+    """What the clerks know of one another: what was sent, which keys were asked with and which were answered as
+    accepted, in the order in which it was, and about how the library is."""
 
     def __init__(self, library):
         self.lock, self.shadow, self.sent, self.asked, self.accepted = threading.Lock(), library, [], [], []
 
     def ask(self, serving, hand, key, words, sort):
-        """One request: who sent it and what, its answer, how many had been accepted before it was sent, and how many had been asked when it was answered."""
+        """One request: who sent it and what, its answer, how many had been accepted before it was sent, and how many
+        had been asked when it was answered."""
         with self.lock:
             before = len(self.accepted)
             self.asked.append(f"{hand.name}/{key}")
@@ -511,7 +520,8 @@ class Shared:
             return hand, key, words, sort, found, before, len(self.asked)
 
     def window(self, order, before, after):
-        """The first and the last place of the list of what was kept at which a request may have been answered: after all that was accepted before it, and before all that was asked after it."""
+        """The first and the last place of the list of what was kept at which a request may have been answered: after
+        all that was accepted before it, and before all that was asked after it."""
         place, there = {key: at for at, key in enumerate(order, 1)}, {*self.asked[:after]}
         first = max((place.get(key, 0) for key in self.accepted[:before]), default=0)
         return first, next((at for at, key in enumerate(order) if key not in there), len(order))
@@ -530,7 +540,8 @@ def fits(library, clerks, it, sorts):
 
 
 def at_once(place, clerks, workers, seed):
-    """Clerks at work at once. Each answer is that of the rules at a place of the one list of what was kept, and the file tells whose hand each accepted request was. How often each sort of request had each sort of end."""
+    """Clerks at work at once. Each answer is that of the rules at a place of the one list of what was kept, and the
+    file tells whose hand each accepted request was. How often each sort of request had each sort of end."""
     path, library, sorts = a_library(place, f"at_once_{workers}.db"), Library(), Counter()
     for key, words, _ in GROUND:
         library.handle(key, words)

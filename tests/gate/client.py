@@ -1,5 +1,6 @@
 #!/usr/bin/env python3
-"""Uses the module for programs, tools/circ_client.py, before the program that serves, and before others that answer wrongly or not at all.
+"""Uses the module for programs, tools/circ_client.py, before the program that serves, and before others that answer
+wrongly or not at all.
 
     tests/gate/client.py
 """
@@ -32,7 +33,8 @@ def raised(call):
 
 
 def served(folder):
-    """Replies, refusals, a fault, words that aren't understood, lists of several parts, and what replies are read into."""
+    """Replies, refusals, a fault, words that aren't understood, lists of several parts, and what replies are read
+    into."""
     path = a_library(folder, "town.db")
     asked = 6 + 4 + MANY + 3 + 2 + 4 + 2 + 1
     with Serving(path, asked) as serving:
@@ -66,7 +68,8 @@ def served(folder):
 
 
 def others(_folder):
-    """What isn't a desk is told apart from what doesn't answer; and a request without an answer is sent again under its key."""
+    """What isn't a desk is told apart from what doesn't answer; and a request without an answer is sent again under
+    its key."""
     fake = FakeDesk(os.path.join(TOP, "pages"))
     port = int(fake.url.rpartition(":")[2])
     for answer in ((0.0, 200, "<html>"), (0.0, 200, '{"reply":5}'), (0.0, 200, "[]"), (0.0, 409, '{"refusal":true}'), (0.0, 404, '{"status":404}'), (0.0, 400, '{"status":404}'), (0.0, 503, '{"refusal":11}')):

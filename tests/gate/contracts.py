@@ -6,11 +6,14 @@
     tests/gate/contracts.py CRATE ..   prints each public function of a crate that has a contract (`pub fn`, and each function of a `pub trait`), file by file: the first sentence
                                        of the `///` comment above it, and the label of each clause, or the definitions that a clause without one names
 
-docs/CONTRACTS.md names each law: a function with a contract, no parameter and no result. Each label of its list of labels stands in a contract or a record.
+docs/CONTRACTS.md names each law: a function with a contract, no parameter and no result. Each label of its list of
+labels stands in a contract or a record.
 
-docs/PROOFS.md has the fields of the record `Headline`, each with the comment above it. It has an item for each crate, lowest first, which begins with the crate's name.
+docs/PROOFS.md has the fields of the record `Headline`, each with the comment above it. It has an item for each crate,
+lowest first, which begins with the crate's name.
 
-docs/ARCHITECTURE.md has the table of the crates: what each is for is the first sentence of the `//!` comment of its `lib.rt` or `main.rt`. README.md names each crate.
+docs/ARCHITECTURE.md has the table of the crates: what each is for is the first sentence of the `//!` comment of its
+`lib.rt` or `main.rt`. README.md names each crate.
 """
 
 import os
@@ -93,7 +96,8 @@ def headline():
 
 
 class Function:
-    """A function with a contract: its name, its comment, its clauses, each with its kind, its label and its text, and whether it is a law."""
+    """A function with a contract: its name, its comment, its clauses, each with its kind, its label and its text, and
+    whether it is a law."""
 
     def __init__(self, name, comment, clauses, is_law):
         self.name, self.comment, self.clauses, self.is_law = name, comment, clauses, is_law

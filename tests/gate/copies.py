@@ -1,5 +1,6 @@
 #!/usr/bin/env python3
-"""Runs `tools/copies` on lists as spreadsheets write them, and has the program take in what it makes; then on bad ones, of which each row is told with its cause.
+"""Runs `tools/copies` on lists as spreadsheets write them, and has the program take in what it makes; then on bad
+ones, of which each row is told with its cause.
 
     tests/gate/copies.py
 """

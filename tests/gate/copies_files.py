@@ -1,5 +1,6 @@
 #!/usr/bin/env python3
-"""Runs `./circ import` on copies files: good, refused and bad ones, ones with too many rows, and ones that can't be read.
+"""Runs `./circ import` on copies files: good, refused and bad ones, ones with too many rows, and ones that can't be
+read.
 
 Expected lines and rows are those of docs/RULES.md, worked out by hand; those of the delivery come from `desk_rules`.
 """
@@ -66,8 +67,8 @@ def copies_files(folder):
 
 
 def a_delivery(folder):
-    """A copies file of three hundred rows, some of them refused: its lines and rows are those of the rules; and with runs that
-    are killed at random moments before it is taken in again, the rows are the same."""
+    """A copies file of three hundred rows, some of them refused: its lines and rows are those of the rules; and with
+    runs that are killed at random moments before it is taken in again, the rows are the same."""
     calm, killed = os.path.join(folder, "delivered.db"), os.path.join(folder, "interrupted.db")
     copies, library, seed = os.path.join(folder, "delivery.csv"), Library(), random.randrange(10**9)
     for key, words, _ in GROUND:
@@ -135,7 +136,8 @@ def bad_rows(folder):
 
 
 def a_spreadsheets_files(folder):
-    """The files that LibreOffice Calc wrote (tests/data), as they are, with a byte order mark, and with the ends of lines of another system."""
+    """The files that LibreOffice Calc wrote (tests/data), as they are, with a byte order mark, and with the ends of
+    lines of another system."""
     copies = os.path.join(folder, "calc.csv")
     wanted = [(50, "Maps, Old and New", 1500), (51, "Maps, Old and New", 1500), (52, 'The "Winter" Bees', 700), (53, "M\u00e4rchen, neu erz\u00e4hlt", 900)]
     for name in ("calc.csv", "calc_quoted.csv"):
@@ -152,8 +154,8 @@ def a_spreadsheets_files(folder):
 
 
 def a_row_too_many(folder):
-    """A file of 100,000 rows is taken in whole; row 100,001 ends it as bad, though it is as good as the others. One copy and its like:
-    the first row acquires it, the others do so again under the same key."""
+    """A file of 100,000 rows is taken in whole; row 100,001 ends it as bad, though it is as good as the others. One
+    copy and its like: the first row acquires it, the others do so again under the same key."""
     path, copies = os.path.join(folder, "many.db"), os.path.join(folder, "many.csv")
     say(path, GROUND)
     with open(copies, "wb") as file:

@@ -3,10 +3,12 @@
 
     tests/gate/definitions.py GATE [--seed N] [HISTORIES]      over the libraries that `rt ci` left in GATE/crates/*/out, a copy of the repository
 
-A history is 25 requests of the desk, of all commands but `page`, after those that make a small library; in eight of the histories a question comes after each second one. Loans end late in
-them, within their grace days and past these. What each is answered is worked out by `tests/reference/desk_rules.py`, which shares nothing with the definitions; that the definitions give the same answers is a lemma, which the prover
-computes in a copy of the crate `model`. A history that takes it more steps than a lemma may have is computed again as far as its first half. One lemma more has a wrong answer, and has to be
-rejected.
+A history is 25 requests of the desk, of all commands but `page`, after those that make a small library; in eight of
+the histories a question comes after each second one. Loans end late in them, within their grace days and past these.
+What each is answered is worked out by `tests/reference/desk_rules.py`, which shares nothing with the definitions; that
+the definitions give the same answers is a lemma, which the prover computes in a copy of the crate `model`. A history
+that takes it more steps than a lemma may have is computed again as far as its first half. One lemma more has a wrong
+answer, and has to be rejected.
 """
 
 import json
@@ -45,7 +47,8 @@ use Rattle.std.specs.Prelude.{codes}
 
 
 def asked_histories(rng):
-    """Histories with questions, of more that are drawn: first those in which the most questions are shown rows that were shown none before."""
+    """Histories with questions, of more that are drawn: first those in which the most questions are shown rows that
+    were shown none before."""
     drawn, taken, left = [history(rng, True) for _ in range(DRAWN * ASKED)], [], set(QUESTIONS)
     for _ in range(ASKED):
         best = max(drawn, key=lambda asked: len(left & shown_in(asked)))

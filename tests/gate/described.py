@@ -1,9 +1,11 @@
 #!/usr/bin/env python3
-"""What programs are told of the desk, compared with the desk: docs/replies.json with each answer of the stories, and docs/openapi.yaml with what the program that serves answers.
+"""What programs are told of the desk, compared with the desk: docs/replies.json with each answer of the stories, and
+docs/openapi.yaml with what the program that serves answers.
 
     tests/gate/described.py
 
-The answers of the stories are compared with the program by tests/gate/stories.py. Each route of the web is asked for each status that is described, and each answer has the form that is described.
+The answers of the stories are compared with the program by tests/gate/stories.py. Each route of the web is asked for
+each status that is described, and each answer has the form that is described.
 """
 
 import json
@@ -52,7 +54,8 @@ class Forms:
         return any(re.fullmatch(self.pattern(it, places), line) for it in forms)
 
     def is_list(self, command, lines):
-        """Whether the lines are a list: its head, rows and an end. Lists like a report have no form of their own rows."""
+        """Whether the lines are a list: its head, rows and an end. Lists like a report have no form of their own
+        rows."""
         *rows, end = lines
         if not command["list"]["rows"]:
             return bool(re.fullmatch(ENDS, end))
@@ -77,7 +80,8 @@ class Forms:
 
 
 def stories():
-    """Each answer of the stories is a refusal that is listed, or has the form that is described; and each listed refusal, but for a few, comes there."""
+    """Each answer of the stories is a refusal that is listed, or has the form that is described; and each listed
+    refusal, but for a few, comes there."""
     forms, met, told = Forms(), set(), 0
     for step in (step for path in story_paths([]) for story in stories_of(path) for step in story.steps if step.kind == "request"):
         for _, (name, *_) in step.requests():

@@ -1,5 +1,6 @@
 #!/usr/bin/env python3
-"""The program as a whole on real files: new and small libraries, each refusal, words and files that are none, lost output, and two runs at once.
+"""The program as a whole on real files: new and small libraries, each refusal, words and files that are none, lost
+output, and two runs at once.
 
     tests/gate/end_to_end.py
 
@@ -376,7 +377,8 @@ def lost_output(folder):
         run = subprocess.run([CIRC, "import", path, copies], stdout=full, timeout=120)
     check("a full disk at the first row", run.returncode, 3)
     check("one row was handled", rows(path, "SELECT copy FROM copies WHERE copy >= 1000"), [(1000,)])
-    # the reader goes after three lines; what ignores the signal sees the write fail. The pipe holds a part of the lines, so some are written after that
+    # the reader goes after three lines; what ignores the signal sees the write fail. The pipe holds a part of the
+    # lines, so some are written after that
     with subprocess.Popen([PROGRAM, "import", path, copies], stdout=subprocess.PIPE, bufsize=0, pipesize=4096, restore_signals=False) as run:
         lines = [run.stdout.readline() for _ in range(3)]
         run.stdout.close()

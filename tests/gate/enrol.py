@@ -1,5 +1,6 @@
 #!/usr/bin/env python3
-"""Runs `tools/enrol` on lists of patrons, good, refused and bad ones, before the program that serves, and before others that answer wrongly or not at all.
+"""Runs `tools/enrol` on lists of patrons, good, refused and bad ones, before the program that serves, and before
+others that answer wrongly or not at all.
 
     tests/gate/enrol.py
 
@@ -58,7 +59,8 @@ def a_desk(path, key=DESK_KEY):
 
 @contextmanager
 def one_who_answers(answer):
-    """A port on which each connection is answered by these bytes, whatever it asks, and closed; or by nothing, and held, where there are none."""
+    """A port on which each connection is answered by these bytes, whatever it asks, and closed; or by nothing, and
+    held, where there are none."""
     held = []
     with socket.create_server(("127.0.0.1", 0)) as listening:
         def serve():
@@ -93,7 +95,8 @@ def begun(*words, **how):
 
 
 def enrolled(*words):
-    """What a run prints, what it says on standard error, and its status. No card key and no key of a desk is told, whatever goes wrong."""
+    """What a run prints, what it says on standard error, and its status. No card key and no key of a desk is told,
+    whatever goes wrong."""
     with begun(*words) as run:
         out, err = (it.decode() for it in run.communicate(timeout=900))
     check("keys that are told", [it for it in ("cardkey", DESK_KEY, WRONG_KEY, *CLERKS_KEYS) if it in out + err], [])
@@ -112,7 +115,8 @@ def said(*lines):
 
 
 def good_lists(folder):
-    """A list in each form that a copies file may have, enrolled twice: the patrons are there, each once, and no file of refused rows is made."""
+    """A list in each form that a copies file may have, enrolled twice: the patrons are there, each once, and no file
+    of refused rows is made."""
     forms = {
         "as it is": TOWN.encode(),
         "with a byte order mark": TOWN.encode("utf-8-sig"),
@@ -135,8 +139,8 @@ def good_lists(folder):
 
 
 def refused_rows(folder):
-    """Rows that the desk refuses are told at the end and stand in a file of the list's form, and the others are accepted. Once they are mended there they are
-    accepted too, under the same keys."""
+    """Rows that the desk refuses are told at the end and stand in a file of the list's form, and the others are
+    accepted. Once they are mended there they are accepted too, under the same keys."""
     path, refused, again = a_library(folder, "refused.db"), os.path.join(folder, "rest.csv"), os.path.join(folder, "rest2.csv")
     listed = put(folder, "mixed.csv", "\ufeff" + TOWN + """\
 53,9,cardkey00053,"Dunn, Cy"
@@ -223,7 +227,8 @@ BAD_ROWS = [
 
 
 def bad_lists(folder):
-    """A list with a fault of its form is told in a line, and nothing of it is sent, the good row before the bad one neither."""
+    """A list with a fault of its form is told in a line, and nothing of it is sent, the good row before the bad one
+    neither."""
     path, refused = a_library(folder, "bad.db"), os.path.join(folder, "of_bad.csv")
     with a_desk(path) as (_, port):
         for what, text, wanted in WHOLE_LISTS:
@@ -262,7 +267,8 @@ BAD_KEYS = ["", "\n", ANN[:-1], ANN.replace(" ", "  "), ANN.replace("desk", "cle
 
 
 def by_clerks(folder):
-    """A list is enrolled with the first key of a file of keys, and the rows are that clerk's; a lending clerk, and a clerk whom the desk doesn't know, enrol nobody."""
+    """A list is enrolled with the first key of a file of keys, and the rows are that clerk's; a lending clerk, and a
+    clerk whom the desk doesn't know, enrol nobody."""
     path, listed, refused = a_library(folder, "clerks.db"), put(folder, "clerks.csv", TOWN), os.path.join(folder, "of_clerks.csv")
     keys = lambda text: f"@{put(folder, 'clerks.keys', text)}"
     wrong = ("accepted 0 refused 0\n", said("refused 81: wrong key, or not allowed to this caller"), 2)
@@ -319,7 +325,8 @@ def others_that_answer(folder):
     for what, answer, wanted, status in ANSWERS:
         with one_who_answers(answer) as port:
             check(what, enrolled(port, DESK_KEY, listed, refused), (nothing, said(wanted.format(port)), status))
-    # beside the manual page, as in the repository, numbers have their meanings; by itself the tool tells the number alone
+    # beside the manual page, as in the repository, numbers have their meanings; by itself the tool tells the number
+    # alone
     alone = put(folder, "enrol", open(ENROL, "rb").read())
     os.chmod(alone, 0o755)
     for name in ("circ_client.py", "circ_tool.py"):
@@ -364,7 +371,8 @@ def each_once(path, people):
 
 
 def killed_in_the_middle(folder):
-    """Ten thousand rows, killed in the middle: the first of them are there, and after the same run again each is there once."""
+    """Ten thousand rows, killed in the middle: the first of them are there, and after the same run again each is there
+    once."""
     path, (listed, people), refused = a_library(folder, "town.db"), town(folder, "town.csv", MANY), os.path.join(folder, "of_town.csv")
     with a_desk(path) as (_, port):
         with begun(port, DESK_KEY, listed, refused) as run:
@@ -380,8 +388,8 @@ def killed_in_the_middle(folder):
 
 
 def other_stops(folder):
-    """The desk is killed; and the run is interrupted at a terminal, which is shown how far it is. Each is told in a line, and after the same run again each
-    patron is there once."""
+    """The desk is killed; and the run is interrupted at a terminal, which is shown how far it is. Each is told in a
+    line, and after the same run again each patron is there once."""
     path, (listed, people), refused = a_library(folder, "stopped.db"), town(folder, "stopped.csv", SOME), os.path.join(folder, "of_stopped.csv")
     with a_desk(path) as (desk, port):
         with begun(port, DESK_KEY, listed, refused) as run:

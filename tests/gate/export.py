@@ -1,9 +1,11 @@
 #!/usr/bin/env python3
-"""Runs `tools/export` on a library that has a copy in each place, holds and lines of each sort, and names with commas, quotes and letters beyond ASCII; then where it can't be done.
+"""Runs `tools/export` on a library that has a copy in each place, holds and lines of each sort, and names with commas,
+quotes and letters beyond ASCII; then where it can't be done.
 
     tests/gate/export.py
 
-The rows that are wanted are what the rules in plain Python know after the same requests (tests/reference/desk_rules.py).
+The rows that are wanted are what the rules in plain Python know after the same requests
+(tests/reference/desk_rules.py).
 """
 
 import csv

@@ -1,5 +1,6 @@
 #!/usr/bin/env python3
-"""Runs `tools/forget` on a library whose patron has left: nothing of the name, of the card keys and of what the patron asked for stays in the file, and everything else is as it was.
+"""Runs `tools/forget` on a library whose patron has left: nothing of the name, of the card keys and of what the patron
+asked for stays in the file, and everything else is as it was.
 
     tests/gate/forget.py
 """

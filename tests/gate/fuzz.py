@@ -1,12 +1,13 @@
 #!/usr/bin/env python3
-"""Random and mutated web requests, and copies files, against the program and against a reader of its own in plain Python.
+"""Random and mutated web requests, and copies files, against the program and against a reader of its own in plain
+Python.
 
     tests/gate/fuzz.py [SEED [CASES]]
 
-The seed decides every case. Each round has a library of its own, which begins as the small one; every second one has three clerks in a file of keys. Its requests come over a socket to
-`circ serve`, one after another, and then its copies files by `circ import`; each answer has to be, byte by byte, that of `outer_forms`
-and `desk_rules`, which were written from the rules, and so has each row at the end of the round. A case has a minute; none may crash
-or hang the program.
+The seed decides every case. Each round has a library of its own, which begins as the small one; every second one has
+three clerks in a file of keys. Its requests come over a socket to `circ serve`, one after another, and then its copies
+files by `circ import`; each answer has to be, byte by byte, that of `outer_forms` and `desk_rules`, which were written
+from the rules, and so has each row at the end of the round. A case has a minute; none may crash or hang the program.
 """
 
 import csv
@@ -382,7 +383,8 @@ def take_in_all(cases, path, library, where, seen):
 
 
 def play(ground, library, seed, number):
-    """One round: how often each status came, each question was answered and each correction accepted, how many holds have a first day, how often grace days were set, and whose hands there were."""
+    """One round: how often each status came, each question was answered and each correction accepted, how many holds
+    have a first day, how often grace days were set, and whose hands there were."""
     cases, seen, shown, where = Cases(random.Random(f"{seed} {number}"), number), Counter(), Counter(), f"seed {seed}, round {number}"
     with tempfile.TemporaryDirectory() as folder:
         path = os.path.join(folder, "round.db")

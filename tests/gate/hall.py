@@ -1,9 +1,10 @@
 #!/usr/bin/env python3
-"""Runs `circ serve` with several workers under clients that come at once: what each is answered, and the rows at the end.
+"""Runs `circ serve` with several workers under clients that come at once: what each is answered, and the rows at the
+end.
 
-Single answers are those of docs/RULES.md, worked out by hand. Under load `desk_rules` handles the same requests one after another, in the
-order of their hold numbers or in that in which the file kept them: the replies and the rows have to be the same. A question is kept nowhere, so
-its answer has to be that of the rules at some place of that order.
+Single answers are those of docs/RULES.md, worked out by hand. Under load `desk_rules` handles the same requests one
+after another, in the order of their hold numbers or in that in which the file kept them: the replies and the rows have
+to be the same. A question is kept nowhere, so its answer has to be that of the rules at some place of that order.
 """
 
 import copy
@@ -42,7 +43,8 @@ def at_once(calls):
 
 
 def asked(serving, caller, key, words, card_key=None):
-    """What a request is answered: by the desk's route, or by that of the patron who asks, with the first card key unless another is shown."""
+    """What a request is answered: by the desk's route, or by that of the patron who asks, with the first card key
+    unless another is shown."""
     if not caller:
         return serving.desk(key, words)
     return serving.ask(*by_patron(caller, card_key or f"cardkey{caller:05}", key, words))[:2]
@@ -59,7 +61,8 @@ def page_by(library, patron):
 
 
 class Town:
-    """A library of eight patrons, each with two loans of which nobody else wants the titles, and of fifty titles to be held; and its rules."""
+    """A library of eight patrons, each with two loans of which nobody else wants the titles, and of fifty titles to be
+    held; and its rules."""
 
     def __init__(self, folder):
         self.folder, self.path, self.rules = folder, os.path.join(folder, "town.db"), Library()
@@ -115,7 +118,8 @@ def hold_number(reply):
 
 
 def handle_holds(library, answered):
-    """Has the rules handle holds that were answered, in the order of their numbers: they are numbered from 1, and each reply is the same."""
+    """Has the rules handle holds that were answered, in the order of their numbers: they are numbered from 1, and each
+    reply is the same."""
     numbered = sorted((hold_number(reply), request, reply) for request, reply in answered)
     check("the numbers of the holds", [number for number, _, _ in numbered], [*range(1, len(numbered) + 1)])
     for number, (caller, key, words), reply in numbered:
@@ -123,7 +127,8 @@ def handle_holds(library, answered):
 
 
 def handle_kept(path, library):
-    """Has the rules handle what the file kept since, in the order in which it was kept: each reply is the same, and so is each row."""
+    """Has the rules handle what the file kept since, in the order in which it was kept: each reply is the same, and so
+    is each row."""
     later = [it for it in rows(path, "SELECT caller, key, text, reply FROM kept ORDER BY rowid") if it[:2] not in library.kept]
     for caller, key, text, reply in later:
         check(f"{caller} {key} {text}", reply, library.handle(key, text.split(), caller))
@@ -131,7 +136,8 @@ def handle_kept(path, library):
 
 
 def a_hold_and_its_page(folder):
-    """Two workers: a hold is on its page, another's page is as before, and a head cut in its middle changes nothing."""
+    """Two workers: a hold is on its page, another's page is as before, and a head cut in its middle changes
+    nothing."""
     path, library = a_library(folder, "hold.db"), Library()
     for key, words, _ in GROUND:
         library.handle(key, words)
@@ -148,7 +154,8 @@ def a_hold_and_its_page(folder):
 
 
 def a_reply_is_on_the_page(town, workers):
-    """What was replied is on the page at once, whichever worker is asked for it: nobody can choose, and each serves as many connections."""
+    """What was replied is on the page at once, whichever worker is asked for it: nobody can choose, and each serves as
+    many connections."""
     path, library = town.copied(f"replied{workers}.db")
     with Serving(path, 4 * HOLDS, workers=workers) as serving:
         for request, renewal in zip(holds_of(1), renewals_of(1)):
@@ -159,7 +166,8 @@ def a_reply_is_on_the_page(town, workers):
 
 
 def pages_of_a_month(folder):
-    """The month of commands with two workers: after each, every page that it changed is shown anew, and another patron's as it was; none is shown with a card key that another took the place of."""
+    """The month of commands with two workers: after each, every page that it changed is shown anew, and another
+    patron's as it was; none is shown with a card key that another took the place of."""
     path, library, pages, turns, void = os.path.join(folder, "month.db"), Library(), {}, [], {}
     for at, (key, *words) in enumerate(runs.month()):
         keys = {patron: row["card_key"] for patron, row in library.patrons.items()}
@@ -180,7 +188,8 @@ def pages_of_a_month(folder):
 
 
 def a_corrected_title(town, workers):
-    """The text of a title that eight patrons hold or have on loan is set anew: each of their pages shows it at once, whichever worker is asked, and each other title as it was."""
+    """The text of a title that eight patrons hold or have on loan is set anew: each of their pages shows it at once,
+    whichever worker is asked, and each other title as it was."""
     path, library = town.copied(f"corrected{workers}.db")
     title, turns = str(TITLES[0]), 12
     for patron in PATRONS:
@@ -200,8 +209,10 @@ def a_corrected_title(town, workers):
 
 
 def void_card_keys(town):
-    """Eight workers, and a desk that gives two patrons one card key after another, while six clients of theirs show the newest key that they know of, and keys of before: what is sent with a key after the answer
-    to the next `card-key` is refused, a page as a request, and what was accepted with a key stands in the list of accepted requests between the two that set it and the next. No page is shown with a key once another was."""
+    """Eight workers, and a desk that gives two patrons one card key after another, while six clients of theirs show
+    the newest key that they know of, and keys of before: what is sent with a key after the answer to the next
+    `card-key` is refused, a page as a request, and what was accepted with a key stands in the list of accepted
+    requests between the two that set it and the next. No page is shown with a key once another was."""
     path, library = town.copied("void.db")
     patrons, changes = PATRONS[:2], 60
     keys = {patron: [f"cardkey{patron:05}", *(f"newkey{patron:03}x{turn:03}" for turn in range(changes))] for patron in patrons}
@@ -279,7 +290,8 @@ def one_is_held(folder):
 
 
 def fifty_holds_each(town):
-    """Eight workers and fifty holds by each of eight clients: all are accepted, and the rows are those of the same requests one after another."""
+    """Eight workers and fifty holds by each of eight clients: all are accepted, and the rows are those of the same
+    requests one after another."""
     path, library = town.copied("fifty.db")
 
     def client(patron):
@@ -295,7 +307,8 @@ def fifty_holds_each(town):
 
 
 class Watched:
-    """A patron whose renewals and pages are counted: how many renewals of each loan were sent, and how many were answered or shown at least."""
+    """A patron whose renewals and pages are counted: how many renewals of each loan were sent, and how many were
+    answered or shown at least."""
 
     def __init__(self, library, patron):
         self.library, self.patron, self.lock = copy.deepcopy(library), patron, threading.Lock()
@@ -347,7 +360,8 @@ class Watched:
 
 
 def no_step_back(town):
-    """Eight clients, two for a patron, mix renewals and looks: a page shows what was answered or shown before it was asked for."""
+    """Eight clients, two for a patron, mix renewals and looks: a page shows what was answered or shown before it was
+    asked for."""
     path, library = town.copied("steps.db")
     seed = random.randrange(10**9)
     print(f"hall: renewals and pages mixed by the seed {seed}")
@@ -371,7 +385,8 @@ def no_step_back(town):
 
 
 def lending_of(patron):
-    """What a clerk asks for on behalf of a patron: copies that are lent, come in, are held and are lost, and what is owed for them."""
+    """What a clerk asks for on behalf of a patron: copies that are lent, come in, are held and are lost, and what is
+    owed for them."""
     # another patron waits for the copy meanwhile, and borrows and loses it; then it is found
     number, other, on_loan = str(TITLES[patron]), str(patron + 4), str(2 * patron)
     for turn in range(12):
@@ -423,7 +438,8 @@ class Seen:
         return found
 
     def question(self, serving, key, words):
-        """A question: its answer, which requests had been answered before it was asked, and which had been sent when it was answered."""
+        """A question: its answer, which requests had been answered before it was asked, and which had been sent when
+        it was answered."""
         with self.lock:
             before = len(self.answered)
         found = asked(serving, 0, key, words)
@@ -432,7 +448,8 @@ class Seen:
 
 
 def places_of(seen, order, before, sent):
-    """The first and the last place of the one list at which a question may have stood: after all that was answered before it, and before all that was sent after it."""
+    """The first and the last place of the one list at which a question may have stood: after all that was answered
+    before it, and before all that was sent after it."""
     place = {key: at for at, key in enumerate(order, 1)}
     first = max((place.get(key, 0) for key in seen.answered[:before]), default=0)
     there = {*seen.sent[:sent]}
@@ -441,8 +458,9 @@ def places_of(seen, order, before, sent):
 
 
 def questions_at_once(town):
-    """Eight workers, four clerks that lend and four that ask: each answer is that of the rules at one place of the list of what was accepted, after all that was answered before it and before all that
-    was sent later, and no clerk is shown an earlier place than before."""
+    """Eight workers, four clerks that lend and four that ask: each answer is that of the rules at one place of the
+    list of what was accepted, after all that was answered before it and before all that was sent later, and no clerk
+    is shown an earlier place than before."""
     path, library = town.copied("asked.db")
     seen, turns = Seen(), 200
 
@@ -484,7 +502,8 @@ def questions_at_once(town):
 
 
 def work(serving, requests, answers):
-    """Asks one request after another up to the first that has no answer, and notes the answers; whether that one may have reached the program."""
+    """Asks one request after another up to the first that has no answer, and notes the answers; whether that one may
+    have reached the program."""
     for request in requests:
         try:
             answers[request[0], request[1]] = asked(serving, *request)
@@ -499,7 +518,8 @@ KILLS = 30  # so many at most, until they hit
 
 
 def killed_at(path, plans, moment):
-    """The answers of eight clients until the program is killed at a moment, and how many of them wait for an answer in vain."""
+    """The answers of eight clients until the program is killed at a moment, and how many of them wait for an answer in
+    vain."""
     answers = {}
     with Serving(path, 8_000_000, status=-signal.SIGKILL, workers=8) as serving:
         killer = threading.Timer(moment, serving.run.kill)
@@ -510,7 +530,8 @@ def killed_at(path, plans, moment):
 
 
 def kills(town):
-    """The program is killed while eight clients are at work: what was answered is kept, nothing acts in part, and what is sent again acts once."""
+    """The program is killed while eight clients are at work: what was answered is kept, nothing acts in part, and what
+    is sent again acts once."""
     plans = [[it for pair in zip(holds_of(patron), renewals_of(patron)) for it in pair] for patron in PATRONS]
     everyone = {(caller, key) for plan in plans for caller, key, _ in plan}
     seed, sums = random.randrange(10**9), {"answered": 0, "cut": 0, "cut and kept": 0}
@@ -552,15 +573,16 @@ def kills(town):
 
 
 def a_full_disk(town):
-    """The disk takes no more while eight clients are at work: one is told the fault, all later requests that the hall is closed. What was
-    answered stands, and so do the pages."""
+    """The disk takes no more while eight clients are at work: one is told the fault, all later requests that the hall
+    is closed. What was answered stands, and so do the pages."""
     path, library = town.copied("full.db")
     looks = [patron for patron in PATRONS for _ in range(3)]
 
     def client(patron):
         found = []
         for at, request in enumerate(holds_of(patron)):
-            # no file of the process can be written from here on; the signal that would come with it is ignored as it is here
+            # no file of the process can be written from here on; the signal that would come with it is ignored as it
+            # is here
             if patron == 1 and at == 10:
                 resource.prlimit(serving.run.pid, resource.RLIMIT_FSIZE, (0, 0))
             found.append((request, asked(serving, *request)))
@@ -585,7 +607,8 @@ def a_full_disk(town):
 
 
 def let_go(serving, bytes_):
-    """A client that sends a beginning of a request and then nothing gets no answer, and is let go after half a minute."""
+    """A client that sends a beginning of a request and then nothing gets no answer, and is let go after half a
+    minute."""
     with socket.create_connection(("127.0.0.1", serving.port), timeout=120) as peer:
         peer.sendall(bytes_)
         began = time.monotonic()
@@ -625,8 +648,8 @@ def crowd(serving, count):
 
 
 def slow_clients(folder):
-    """Clients that are slow, silent or gone keep the workers waiting that they have, for half a minute after their last byte. The patrons
-    of the other workers are served meanwhile, and then all is as before."""
+    """Clients that are slow, silent or gone keep the workers waiting that they have, for half a minute after their
+    last byte. The patrons of the other workers are served meanwhile, and then all is as before."""
     path, beside, is_over = a_library(folder, "slow.db"), [], threading.Event()
     before = runs.whole(path)
     half_a_body = hold_with(HOLD, key=b"s1")[:-12]

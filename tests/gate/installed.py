@@ -123,7 +123,8 @@ DAYS = [
 
 
 def days(prefix, place):
-    """The morning begins the day after the library's and no other, whatever the clock shows; each on a library of its own."""
+    """The morning begins the day after the library's and no other, whatever the clock shows; each on a library of its
+    own."""
     path, port = os.path.join(place, "days.db"), free_port()
     morning = Morning(prefix, place, port)
     check("a library that never had a day", run(f"{prefix}/bin/circ", "file", path, "g1", "branch", "1", "5", "Main").stdout, "ok\n")
@@ -142,7 +143,8 @@ def days(prefix, place):
 
 
 def answering(place, prefix, *answers, words=None, **around):
-    """A tool's words, the morning's where none are given, with another `circ` beside the tool, which gives these answers one after another; and what that was asked."""
+    """A tool's words, the morning's where none are given, with another `circ` beside the tool, which gives these
+    answers one after another; and what that was asked."""
     folder, told = os.path.join(place, "answering"), os.path.join(place, "answering", "told")
     shutil.rmtree(folder, ignore_errors=True)
     lines = "".join(f"[ $n != {at} ] || echo '{it}'\n" for at, it in enumerate(answers, 1))
@@ -169,7 +171,8 @@ def refused_days(prefix, place):
 
 
 def mornings(prefix, place):
-    """The day begins before a program that serves two seconds later, once. The unit begins again where no answer came, and not where somebody has to decide; it comes after the clock is set."""
+    """The day begins before a program that serves two seconds later, once. The unit begins again where no answer came,
+    and not where somebody has to decide; it comes after the clock is set."""
     path = os.path.join(place, "morning.db")
     port = free_port()
     morning = Morning(prefix, place, port)
@@ -220,7 +223,8 @@ def units(prefix, place):
 
 
 class Watch:
-    """What the unit of the watch runs, for some seconds, with a `systemctl` that notes what it is told, tells the state of the service, and does what the test wants on a restart."""
+    """What the unit of the watch runs, for some seconds, with a `systemctl` that notes what it is told, tells the
+    state of the service, and does what the test wants on a restart."""
 
     def __init__(self, prefix, place, seconds="1"):
         self.place, self.port, self.mark = os.path.join(place, "watch"), free_port(), os.path.join(place, "watch", "restarted")
@@ -236,7 +240,8 @@ class Watch:
         command(self.place, "systemctl", text)
 
     def looks(self, *keys, **around):
-        """The status of a look, what it says, and what was done beside asking for the state; with other words for the keys where they are given."""
+        """The status of a look, what it says, and what was done beside asking for the state; with other words for the
+        keys where they are given."""
         words = [*self.words[:2], *(keys if keys or around else self.words[2:3]), *self.words[3:]]
         ran = run(*words, env={**without_key(), "PATH": f"{self.place}:{os.environ['PATH']}", **around})
         calls = os.path.join(self.place, "calls")
@@ -257,7 +262,8 @@ def didnt(port, first, then=None):
 
 
 def silent(prefix, place):
-    """Nobody listens: the service is restarted once, unless somebody stopped it, and each look fails until the desk answers, of a library that has no branch. A desk that is late is waited for."""
+    """Nobody listens: the service is restarted once, unless somebody stopped it, and each look fails until the desk
+    answers, of a library that has no branch. A desk that is late is waited for."""
     watch, path, none = Watch(prefix, place), os.path.join(place, "silent.db"), "fault network"
     for state in ("inactive", "deactivating"):
         watch.prepares(state)
@@ -306,7 +312,8 @@ def silent(prefix, place):
 
 
 def of_before(prefix, place):
-    """The units of a version without files of keys have the desk's key in the environment: what they run goes on, and no key stands in a command line."""
+    """The units of a version without files of keys have the desk's key in the environment: what they run goes on, and
+    no key stands in a command line."""
     path, port, around = os.path.join(place, "before.db"), free_port(), {"DESKKEY": "deskkey00001"}
     morning, watch = Morning(prefix, place, port), Watch(prefix, os.path.join(place, "of before"))
     watch.words[1] = port
@@ -339,7 +346,9 @@ def typed_on_the_page(heading, begin, end):
 
 
 def made_by_hand(prefix, place):
-    """The file of keys as docs/OPERATIONS.md has it made without the package, and made of the one key of before: its mode, and that a desk opens by it. Owners are not given here, and `chgrp` and `systemctl` note what they are told."""
+    """The file of keys as docs/OPERATIONS.md has it made without the package, and made of the one key of before: its
+    mode, and that a desk opens by it. Owners are not given here, and `chgrp` and `systemctl` note what they are
+    told."""
     stubs, notes = os.path.join(place, "stubs"), os.path.join(place, "notes")
     for name in ("chgrp", "systemctl"):
         command(stubs, name, f'echo "{name} $*" >>"{notes}"')
@@ -370,7 +379,8 @@ def made_by_hand(prefix, place):
 
 
 def no_key_in_a_unit():
-    """No key stands in a command line of a unit, and each that needs one names its file, which its user may read by the group: self-service machines have one of their own."""
+    """No key stands in a command line of a unit, and each that needs one names its file, which its user may read by
+    the group: self-service machines have one of their own."""
     files = {**dict.fromkeys(("circ.service", "circ-day.service", "circ-watch.service"), ["/etc/circ/desk.keys"]), "circ-sip2.service": ["/etc/circ/kiosk.keys"]}
     for name in (it for it in os.listdir(f"{TOP}/docs/operations") if it.endswith(".service")):
         unit = unit_of(name)
@@ -411,7 +421,8 @@ def watched(prefix, place):
 
 
 def told_of(prefix, place):
-    """What fails is told in a line, and by a mail where MAILTO is set, once an hour for each unit; each unit that can fail calls for that, and what tells has no other to call."""
+    """What fails is told in a line, and by a mail where MAILTO is set, once an hour for each unit; each unit that can
+    fail calls for that, and what tells has no other to call."""
     there, kept = os.path.join(place, "post"), os.path.join(place, "mailed")
     os.mkdir(kept)
     sent = os.path.join(place, "sent")

@@ -1,9 +1,11 @@
 #!/usr/bin/env python3
-"""What a desk does in its days, on real files: closed days, payments, grace days, copies that move, the days that the documents show, and every pair of requests.
+"""What a desk does in its days, on real files: closed days, payments, grace days, copies that move, the days that the
+documents show, and every pair of requests.
 
     tests/gate/lending.py
 
-Expected lines and rows are those of the desk's rules, worked out by hand or by the rules in plain Python. The tables are read back with stock SQLite.
+Expected lines and rows are those of the desk's rules, worked out by hand or by the rules in plain Python. The tables
+are read back with stock SQLite.
 """
 
 import copy
@@ -77,7 +79,8 @@ def payments(folder):
 
 
 def grace_days(folder):
-    """A loan within the grace days that its rule had when it was made costs nothing and makes no line; one past them costs each day late, and a loan of before has none."""
+    """A loan within the grace days that its rule had when it was made costs nothing and makes no line; one past them
+    costs each day late, and a loan of before has none."""
     path = os.path.join(folder, "grace.db")
     say(path, GROUND)
     say(path, [
@@ -179,7 +182,8 @@ def the_readme(folder):
         check(f"the refusal of {example} is in its row", [it for it in refused if it not in re.findall(r"\d+", refusals)], [])
 
 
-# A library with loans, one of them overdue, a hold that waits, one whose first day is to come, two that are ready, a lost copy and an account.
+# A library with loans, one of them overdue, a hold that waits, one whose first day is to come, two that are ready, a
+# lost copy and an account.
 BEGUN = [shlex.join(words) for _, words, _ in GROUND] + [
     "acquire 12 101 1 1 900 'Slow Water'", "check-out 1 10 1", "check-out 1 11 1", "place-hold 2 100 1",
     "place-hold 3 300 1", "check-in 30 1", "place-hold 1 200 1", "check-in 20 1", "begin-day 2026-03-07",
@@ -199,7 +203,8 @@ CROWDED = [
 ]
 
 
-# What is asked after them, one after a pair; as many as have no divisor in common with the number of requests, so that each comes after each of them.
+# What is asked after them, one after a pair; as many as have no divisor in common with the number of requests, so that
+# each comes after each of them.
 AFTER_PAIRS = [
     *(" ".join(it) for it in every_question(P="1", C="10", B="1", T="100", K="1", N="2026-03-12", A="0", F="r")),
     "pulls 2 0", "transits 2 0", "queue 101 0",
@@ -207,8 +212,8 @@ AFTER_PAIRS = [
 
 
 def every_pair(folder):
-    """Every ordered pair of these requests, each on a library of its own that is the same before: each reply is that of
-    the rules, and so are what a question is answered after them and each row."""
+    """Every ordered pair of these requests, each on a library of its own that is the same before: each reply is that
+    of the rules, and so are what a question is answered after them and each row."""
     begun, pair, rules = os.path.join(folder, "begun.db"), os.path.join(folder, "pair.db"), Library()
     for at, text in enumerate(BEGUN):
         words = shlex.split(text)

@@ -3,7 +3,8 @@
 
     tests/gate/lists.py
 
-Expected lines and rows are those of the desk's rules, worked out by hand or by the rules in plain Python. Rows in great numbers are written past the desk.
+Expected lines and rows are those of the desk's rules, worked out by hand or by the rules in plain Python. Rows in
+great numbers are written past the desk.
 """
 
 import datetime
@@ -92,10 +93,12 @@ def a_long_line(folder):
 
 
 def a_line_with_first_days(folder):
-    """Of a thousand holds that wait for a title, most with a first day, a copy goes to the least number of those that have none or whose day has come: on each day anew."""
+    """Of a thousand holds that wait for a title, most with a first day, a copy goes to the least number of those that
+    have none or whose day has come: on each day anew."""
     path, served = os.path.join(folder, "first_days.db"), []
     say(path, GROUND)
-    # first days from two weeks before today to two weeks after it, in no order of the numbers; every fortieth hold has none, and the least of these is hold 7
+    # first days from two weeks before today to two weeks after it, in no order of the numbers; every fortieth hold has
+    # none, and the least of these is hold 7
     first_days = {n: None if n % 40 == 7 else TODAY - 14 + n * 97 % 29 for n in range(1, 1001)}
     with closing(sqlite3.connect(path)) as db, db:
         db.executemany("INSERT INTO patrons VALUES (?, 1, ?, ?, 0)", ((1000 + n, f"card{n:08}", f"Reader {n}") for n in first_days))
@@ -153,8 +156,10 @@ MANY = 2 * MOST_ROWS + 1
 
 
 def with_long_lists(library):
-    """Adds rows to the rules of a small library, so that each list has so many: a title of many copies in all places, with many holds in its line; many titles, of which each has a copy to be taken
-    for its first hold; loans that are overdue; holds that are ready; copies on their way; a patron with many lines, and many who owe something; days that are closed; copies that are missing, and one that was lent often. Their numbers rise in an order of their own."""
+    """Adds rows to the rules of a small library, so that each list has so many: a title of many copies in all places,
+    with many holds in its line; many titles, of which each has a copy to be taken for its first hold; loans that are
+    overdue; holds that are ready; copies on their way; a patron with many lines, and many who owe something; days that
+    are closed; copies that are missing, and one that was lent often. Their numbers rise in an order of their own."""
     mixed = lambda n: n * 97 % MANY
     day = library.today - datetime.timedelta(9)
     tall = 900
@@ -212,7 +217,8 @@ def number_of(row):
 
 
 def asked_from(words, after):
-    """The words by which a list is asked for from a number on: the number stands last, and before the text of a search."""
+    """The words by which a list is asked for from a number on: the number stands last, and before the text of a
+    search."""
     return [words[0], after, *words[1:]] if words[0] in SEARCHES else [*words, after]
 
 
@@ -230,8 +236,8 @@ def walked(path, library, words):
 
 
 def long_lists(folder):
-    """Lists of many rows, part by part: each is that of the rules, from whatever number on it is asked for, and each row is shown once. So it is without the five indexes that came last,
-    and with those made by hand."""
+    """Lists of many rows, part by part: each is that of the rules, from whatever number on it is asked for, and each
+    row is shown once. So it is without the five indexes that came last, and with those made by hand."""
     path, library = os.path.join(folder, "lists.db"), Library()
     say(path, GROUND)
     for key, words, _ in GROUND:
@@ -266,8 +272,9 @@ def long_lists(folder):
 
 
 def a_search_of_five_thousand(folder):
-    """Titles of a copies file: a search stops at the 5,000th row that it looks at, or at the hundredth that it finds, and goes on where a row is left. By words, by POST /desk with eight workers and by
-    `circ send` it is answered the same."""
+    """Titles of a copies file: a search stops at the 5,000th row that it looks at, or at the hundredth that it finds,
+    and goes on where a row is left. By words, by POST /desk with eight workers and by `circ send` it is answered the
+    same."""
     path, copies = os.path.join(folder, "volumes.db"), os.path.join(folder, "volumes.csv")
     say(path, [*GROUND, ("a1", ["acquire", "40", "400", "1", "2", "900", "2 × 2 Œuvres"], "ok")])
     each = range(20_001, 25_001)
@@ -305,7 +312,8 @@ SEARCHED = [["find-patrons", "zoe sand"], ["find-patrons", "carr 1"], ["find-pat
 
 
 def long_searches(folder):
-    """Searches of many rows, part by part: each is that of the rules, from whatever number on it is asked for, and each row that is found is shown once. They take the memory of a part of the rows."""
+    """Searches of many rows, part by part: each is that of the rules, from whatever number on it is asked for, and
+    each row that is found is shown once. They take the memory of a part of the rows."""
     path, library, out = os.path.join(folder, "named.db"), Library(), os.path.join(folder, "named.txt")
     say(path, GROUND)
     for key, words, _ in GROUND:

@@ -3,8 +3,8 @@
 
     tests/gate/messages.py
 
-What is wanted beside the lines of a run is told by tests/lib/messages.py, which the other tests ask of every run. The script goes through each kind of message, and through what is
-known of a library's file when the database told a fault.
+What is wanted beside the lines of a run is told by tests/lib/messages.py, which the other tests ask of every run. The
+script goes through each kind of message, and through what is known of a library's file when the database told a fault.
 """
 
 import fcntl
@@ -46,7 +46,8 @@ def asks(words, lines, program=PROGRAM, **how):
 
 
 def says(words, number, path, said, program=PROGRAM, **how):
-    """A run of these words meets a fault, and says this of a file; the file and what lies beside it stay as they are."""
+    """A run of these words meets a fault, and says this of a file; the file and what lies beside it stay as they
+    are."""
     before = beside(path)
     run = subprocess.run([program, *words], capture_output=True, timeout=120, check=False, **how)
     check(words, (run.returncode, run.stdout.decode(), run.stderr.decode()), (3, f"fault {number}\n", f"circ: {MEANINGS[number]}\ncirc: {path}: {said}\n"))
@@ -139,7 +140,8 @@ def files_of_nobody(place):
 
 
 def files_of_libraries(place, path):
-    """Libraries of other schemas, held, damaged, cut off, with another's log, with a journal, and such as can't be written."""
+    """Libraries of other schemas, held, damaged, cut off, with another's log, with a journal, and such as can't be
+    written."""
     later = os.path.join(place, "later.db")
     asks(["file", later, "k1", "begin-day", "2026-03-02"], "ok\n")
     for schema, said in ((4, LATER), (2, OLDER), (1, OLDER), (0, FOREIGN)):

@@ -1,13 +1,16 @@
 #!/usr/bin/env python3
-"""`circ migrate` on libraries of schemas 1 and 2: what is carried over, what stays, and what is left where it meets damage, a fault or a stop.
+"""`circ migrate` on libraries of schemas 1 and 2: what is carried over, what stays, and what is left where it meets
+damage, a fault or a stop.
 
     tests/gate/migrate.py
 
-The old libraries stand in tests/data as texts of SQL: the program made them when it had their schema, and stock SQLite wrote them down (`sqlite3 FILE .dump`). Of each schema one is
-a new library; one is after the first requests of tests/data/month.txt, as many as that schema knew (`KNOWN`); and one after the first `HALF` requests of the month and those of patrons in `BY_PATRONS`,
-which came over the web: there are holds in every state, and copies that travel for some. That of schema 2 has the requests of `FIRST_DAYS` too, so a hold with a first day is ready, one is coming,
-one waits for its day and one is cancelled. What they hold is worked out here once more by the rules in plain Python, and what each step of a migration has to leave follows from it: nothing here
-is taken from the program.
+The old libraries stand in tests/data as texts of SQL: the program made them when it had their schema, and stock SQLite
+wrote them down (`sqlite3 FILE .dump`). Of each schema one is a new library; one is after the first requests of
+tests/data/month.txt, as many as that schema knew (`KNOWN`); and one after the first `HALF` requests of the month and
+those of patrons in `BY_PATRONS`, which came over the web: there are holds in every state, and copies that travel for
+some. That of schema 2 has the requests of `FIRST_DAYS` too, so a hold with a first day is ready, one is coming, one
+waits for its day and one is cancelled. What they hold is worked out here once more by the rules in plain Python, and
+what each step of a migration has to leave follows from it: nothing here is taken from the program.
 """
 
 import fcntl
@@ -32,7 +35,8 @@ from reference.desk_rules import Library
 
 NEW, HOLDS, MONTH = ([f"schema{schema}_{it}" for schema in (1, 2)] for it in ("new", "holds", "month"))
 HALF, KNOWN = 642, {1: 732, 2: 771}
-# What patrons asked for after these requests: the number of each, a key, and the words. One key is one that the desk used too.
+# What patrons asked for after these requests: the number of each, a key, and the words. One key is one that the desk
+# used too.
 BY_PATRONS = [
     (2, "h1", ["place-hold", "2", "1", "1"], "hold 63"),
     (12, "r1", ["renew", "75"], "loan 75 due 2026-04-25"),
@@ -54,7 +58,8 @@ FIRST_DAYS = [
 ]
 NEWEST = int(SCHEMA)
 DONE = f"schema {NEWEST}"
-# What each schema has in another table than the one before it: the old table, the new one, and the value of its last column in a row that is carried over.
+# What each schema has in another table than the one before it: the old table, the new one, and the value of its last
+# column in a row that is carried over.
 MOVED = {2: [("holds", "holds2", None)], 3: [("rules", "rules3", 0), ("loans", "loans3", 0)]}
 
 
@@ -72,7 +77,8 @@ def asked_after(name):
 
 
 def handle_after(library, name):
-    """Has the rules handle what was asked after the beginning of the month; that an unknown hold is told of another's is patrons' alone to be refused."""
+    """Has the rules handle what was asked after the beginning of the month; that an unknown hold is told of another's
+    is patrons' alone to be refused."""
     for patron, key, words, line in [it for it in asked_after(name) if it[-1] != "refused 15"]:
         check(f"{key} of {patron or 'the desk'}, by the rules", library.handle(key, words, caller=patron), line)
 
@@ -99,7 +105,8 @@ def schema_of(tables):
 
 
 def older(tables, schema):
-    """The tables of an older schema that are led to these of the newest: rows have no column more, and stand in the tables of before."""
+    """The tables of an older schema that are led to these of the newest: rows have no column more, and stand in the
+    tables of before."""
     for at in range(NEWEST, schema, -1):
         for old, new, _ in MOVED[at]:
             tables = {**tables, old: [row[:-1] for row in tables[new]]}
@@ -139,7 +146,8 @@ def migrate(path, line=DONE):
 
 
 def is_migrated(path, before, what):
-    """A migration leads these tables to the newest schema, and leaves a whole database; a second one changes nothing."""
+    """A migration leads these tables to the newest schema, and leaves a whole database; a second one changes
+    nothing."""
     migrate(path)
     check(f"the rows of {what}", whole(path), led_up(before))
     check(f"stock SQLite finds no fault in {what}", rows(path, "PRAGMA integrity_check"), [("ok",)])
@@ -169,7 +177,8 @@ def leaves_and_says(path, words, line, after, said):
 
 
 def old_libraries(folder):
-    """Each old library, in both journal modes of stock SQLite: its rows are those of the rules; it is led to the newest schema, with the tables and indexes of a new library, and is sound."""
+    """Each old library, in both journal modes of stock SQLite: its rows are those of the rules; it is led to the
+    newest schema, with the tables and indexes of a new library, and is sound."""
     new = os.path.join(folder, "new.db")
     say(new, [("g1", ["week", "1", "ooooooo"], "refused 10")])
     for name in (*NEW, *HOLDS, *MONTH):
@@ -197,7 +206,8 @@ def by_route(serving, patron, key, words):
 
 
 def the_rest_of_the_month(folder, name):
-    """After the migration what was kept is answered under its keys, and the rest of the month is answered as the rules answer it, by words and over the web."""
+    """After the migration what was kept is answered under its keys, and the rest of the month is answered as the rules
+    answer it, by words and over the web."""
     path, library, requests = old_library(name, os.path.join(folder, f"{name}.db")), known(name), month()
     migrate(path)
     kept = [(key, words) for key, *words in requests[:HALF] if (0, key) in library.kept]
@@ -228,7 +238,8 @@ def the_rest_of_the_month(folder, name):
         check(f"the overdue loans of {branch}", runs.report(path, "overdue", str(branch)), (library.overdue(branch), 0))
 
 
-# What is asked of the library with holds in every state after it was migrated: the patron who asks, or 0 for the desk, a key, the words and the answer. Two keys were kept before.
+# What is asked of the library with holds in every state after it was migrated: the patron who asks, or 0 for the desk,
+# a key, the words and the answer. Two keys were kept before.
 FROM_A_DAY_ON = [
     (0, "m1", ["begin-day", "2026-03-02"], "ok"),
     (0, "m1", ["place-hold-from", "5", "1", "3", "2026-04-02"], "refused 80"),
@@ -239,7 +250,8 @@ FROM_A_DAY_ON = [
     (6, "f1", ["place-hold-from", "6", "8", "1", "2026-04-01"], "hold 65"),
     (0, "f2", ["page", "2"], "patron 2 owed 0 name Bo Dunn\nhold 37 at 3 waiting title 14 Lanterns\nhold 63 at 1 waiting title 1 Rivers of the North"),
     (0, "f2", ["page", "5"], "patron 5 owed 0 name Eva Grant\nhold 64 at 3 waiting from 2026-04-02 title 1 Rivers of the North"),
-    # holds 44 and 63 were there before; Hill is open on Tuesdays, Thursdays and Saturdays, and keeps a copy no day longer than today
+    # holds 44 and 63 were there before; Hill is open on Tuesdays, Thursdays and Saturdays, and keeps a copy no day
+    # longer than today
     (0, "f3", ["unshelve-cancelled", "38"], "ready 44 at 3 until 2026-03-31"),
     (0, "f4", ["begin-day", "2026-04-01"], "ok"),
     (0, "f5", ["unshelve", "44"], "transit 1 for 63"),
@@ -266,7 +278,8 @@ def holds_from_a_day_on(folder):
     the_rows_are(path, library)
 
 
-# What is asked of a library with loans after it was migrated. Loan 76 was there before, and has no grace days, also once it is renewed; loan 77 is made under a rule with two.
+# What is asked of a library with loans after it was migrated. Loan 76 was there before, and has no grace days, also
+# once it is renewed; loan 77 is made under a rule with two.
 WITH_GRACE = [
     (0, "m1", ["begin-day", "2026-03-02"], "ok"),
     (0, "m1", ["grace", "1", "1", "2"], "refused 80"),
@@ -285,7 +298,8 @@ WITH_GRACE = [
 
 
 def grace_days(folder, name):
-    """A library that was migrated takes grace days: the rules and loans that it had have none, and a loan that is made under a rule with some has them."""
+    """A library that was migrated takes grace days: the rules and loans that it had have none, and a loan that is made
+    under a rule with some has them."""
     path, library = old_library(name, os.path.join(folder, f"{name}.db")), known(name)
     migrate(path)
     check("no grace days are made up", rows(path, "SELECT DISTINCT grace FROM rules3 UNION SELECT DISTINCT grace FROM loans3"), [(0,)])
@@ -363,7 +377,8 @@ META = ["UPDATE meta SET schema = 0", "UPDATE meta SET schema = -1", "UPDATE met
         "UPDATE meta SET schema = -9223372036854775808", "INSERT INTO meta VALUES (2, 1, 20514, 1, 1, 1)", "DELETE FROM meta", "DROP TABLE meta", "UPDATE meta SET id = 2",
         "UPDATE meta SET today = 10956", "UPDATE meta SET today = 84006", "UPDATE meta SET next_loan = 0", "UPDATE meta SET next_hold = 0", "UPDATE meta SET next_line = 0",
         "UPDATE meta SET next_loan = 2147483649", "UPDATE meta SET next_hold = 2147483649", "UPDATE meta SET next_line = 2147483649"]
-# The least and the greatest number that each column of a row that is carried over may have; and numbers past all of these, one of which would be 1 if it were cut to 32 bits.
+# The least and the greatest number that each column of a row that is carried over may have; and numbers past all of
+# these, one of which would be 1 if it were cut to 32 bits.
 NUMBER, LARGE, SMALL, DAY, PERIOD, RENEWALS, RATE, CAP = (1, 2_147_483_647), (1, 9_999_999), (1, 99), (10_957, 84_005), (1, 365), (0, 99), (0, 10_000), (0, 100_000)
 LIMITS = {
     "holds": {"hold": NUMBER, "patron": LARGE, "title": LARGE, "branch": SMALL, "state": (0, 4), "copy": LARGE, "limit_day": DAY},
@@ -375,7 +390,8 @@ MANY = 2_345  # more holds, and more loans, than are read at once, twice
 
 
 def with_many_rows(path, name=HOLDS[0]):
-    """An old library with many holds more, half of which are cancelled, and half wait; and with many loans more, which ended."""
+    """An old library with many holds more, half of which are cancelled, and half wait; and with many loans more, which
+    ended."""
     old_library(name, path)
     with closing(sqlite3.connect(path)) as conn, conn:
         first, lent, schema = conn.execute("SELECT next_hold, next_loan, schema FROM meta").fetchone()
@@ -396,7 +412,8 @@ def ends_of(path, table):
 
 
 def is_at_fault(path, name, table):
-    """A row of the table is damaged, which is told as 93: the step that would carry it over changes nothing, and one before it stands. So it is again at a second migration."""
+    """A row of the table is damaged, which is told as 93: the step that would carry it over changes nothing, and one
+    before it stands. So it is again at a second migration."""
     before = whole(path)
     after = led_on(before) if name == HOLDS[0] and table != "holds" else before
     for _ in range(2):
@@ -404,9 +421,11 @@ def is_at_fault(path, name, table):
 
 
 def damaged(folder, name):
-    """A row of `meta` or of a table that is carried over that is damaged is told as 93, wherever it stands; one that is just within its limits is carried over as it is."""
+    """A row of `meta` or of a table that is carried over that is damaged is told as 93, wherever it stands; one that
+    is just within its limits is carried over as it is."""
     path, kept = os.path.join(folder, "damaged.db"), with_many_rows(os.path.join(folder, "kept.db"), name)
-    # the step from schema 2 on is one and the same, so of a library of schema 1 one column of each of its tables is enough
+    # the step from schema 2 on is one and the same, so of a library of schema 1 one column of each of its tables is
+    # enough
     limits = {"holds": LIMITS["holds"], "rules": {"rate": RATE}, "loans": {"ended": DAY}} if name == HOLDS[0] else {it: LIMITS[it] for it in ("rules", "loans")}
     for text in META:
         shutil.copy(kept, path)
@@ -433,8 +452,8 @@ def damaged(folder, name):
 
 
 def damaged_and_mended(folder):
-    """Of schema 1: a loan that is damaged stops the second step, so the library is of schema 2, which every other run tells; once it is mended the library is led on. A damaged hold stops the first
-    step, whatever else is damaged."""
+    """Of schema 1: a loan that is damaged stops the second step, so the library is of schema 2, which every other run
+    tells; once it is mended the library is led on. A damaged hold stops the first step, whatever else is damaged."""
     path = with_many_rows(os.path.join(folder, "mended.db"))
     library, last = whole(path), ends_of(path, "loans")[1]
     write(path, f"UPDATE loans SET due = 84006 WHERE {last}")
@@ -472,7 +491,8 @@ OTHER_TABLES = {
 
 
 def other_tables(folder, name):
-    """Where the tables aren't those of a library the database refuses a call, which is told as 91, or nothing is known of a schema; the step that meets it changes no row."""
+    """Where the tables aren't those of a library the database refuses a call, which is told as 91, or nothing is known
+    of a schema; the step that meets it changes no row."""
     for at, (text, line, steps) in enumerate(OTHER_TABLES[name]):
         path = old_library(name, os.path.join(folder, f"tables{at}.db"))
         write(path, text)
@@ -498,7 +518,8 @@ TRIES = 50  # so many migrations are stopped at most while they are at work, unt
 
 
 def held(folder):
-    """While another process has the file it is told 91, and nothing is changed: one with the lock alone, one that serves, and one that is at a migration."""
+    """While another process has the file it is told 91, and nothing is changed: one with the lock alone, one that
+    serves, and one that is at a migration."""
     path = old_library(HOLDS[0], os.path.join(folder, "held.db"))
     before = whole(path)
 
@@ -547,7 +568,8 @@ KILLS, LEAST = 400, 40  # so many libraries at most, and at least, have their mi
 
 
 def killed(folder, name):
-    """A migration is killed at a random moment: the rows are the old ones, or those that a step leaves. It is run again until it is done."""
+    """A migration is killed at a random moment: the rows are the old ones, or those that a step leaves. It is run
+    again until it is done."""
     seed, base, path = random.randrange(10**9), with_many_rows(os.path.join(folder, "base.db"), name), os.path.join(folder, "killed.db")
     print(f"migrate: moments of kills by the seed {seed}")
     each = stages(whole(base))
@@ -583,7 +605,8 @@ COPIES, HELD, LENT = 100_000, 5_000, 20_000
 
 
 def a_large_library(folder):
-    """A library of 100,000 copies, and some thousands of holds and loans, is led on in about the memory that opening it takes, and then is sound."""
+    """A library of 100,000 copies, and some thousands of holds and loans, is led on in about the memory that opening
+    it takes, and then is sound."""
     path, out = old_library(NEW[0], os.path.join(folder, "grown.db")), os.path.join(folder, "grown.txt")
     with closing(sqlite3.connect(path)) as conn, conn:
         each, holds = range(1, COPIES + 1), range(1, HELD + 1)

@@ -1,9 +1,11 @@
 #!/usr/bin/env python3
-"""A month of three branches on a real file, and on one whose runs are killed at random moments; so is a run that makes a library.
+"""A month of three branches on a real file, and on one whose runs are killed at random moments; so is a run that makes
+a library.
 
     tests/gate/month.py
 
-Each line and each row is that of the rules in plain Python. The moments of the kills are random, by seeds that are told.
+Each line and each row is that of the rules in plain Python. The moments of the kills are random, by seeds that are
+told.
 """
 
 import os
@@ -34,7 +36,8 @@ IN_THE_MONTH = {
 
 
 class Asker:
-    """Makes up questions of a library, with numbers that mostly mean something, and counts those that are shown rows."""
+    """Makes up questions of a library, with numbers that mostly mean something, and counts those that are shown
+    rows."""
 
     def __init__(self, rng, library):
         self.rng, self.library, self.shown, self.kinds = rng, library, 0, set()
@@ -76,9 +79,9 @@ class Asker:
 
 
 def a_month(folder):
-    """Three branches in one month: each line is that of the rules, and so is each row; and with a run that is killed at
-    a random moment before many of the commands, which are then sent again under the same key, the rows are the same. After each command a question
-    is asked under its key, and is answered by the rules."""
+    """Three branches in one month: each line is that of the rules, and so is each row; and with a run that is killed
+    at a random moment before many of the commands, which are then sent again under the same key, the rows are the
+    same. After each command a question is asked under its key, and is answered by the rules."""
     requests = month()
     calm, killed = os.path.join(folder, "calm.db"), os.path.join(folder, "killed.db")
     library, seed = Library(), random.randrange(10**9)

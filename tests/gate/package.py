@@ -1,10 +1,13 @@
 #!/usr/bin/env python3
-"""Makes the Debian package, twice, and looks at what is in it; then runs its maintainer scripts in a place of their own.
+"""Makes the Debian package, twice, and looks at what is in it; then runs its maintainer scripts in a place of their
+own.
 
     tests/gate/package.py
 
-Both packages have the same bytes. Their files, modes, owners and dates, the fields of the control file and the sums are those that stand here, and each file is the repository's, with the places of the package where units and examples name
-one. The scripts are run by `sh` with the system's commands that they call replaced, which note what they are told; a real installation is tried by tests/tools/outside.
+Both packages have the same bytes. Their files, modes, owners and dates, the fields of the control file and the sums
+are those that stand here, and each file is the repository's, with the places of the package where units and examples
+name one. The scripts are run by `sh` with the system's commands that they call replaced, which note what they are
+told; a real installation is tried by tests/tools/outside.
 """
 
 import datetime
@@ -99,7 +102,8 @@ def folders_of(paths):
 
 
 def needed(program):
-    """The packages that a program needs, by another tool than `./package` asks: the libraries that it names, and the newest version of the C library among its symbols that aren't weak."""
+    """The packages that a program needs, by another tool than `./package` asks: the libraries that it names, and the
+    newest version of the C library among its symbols that aren't weak."""
     libraries = re.findall(r"NEEDED +(\S+)", run("objdump", "-p", program).stdout)
     symbols = [line for line in run("objdump", "-T", program).stdout.splitlines() if " w " not in line]
     versions = [tuple(map(int, it.split("."))) for it in re.findall(r"GLIBC_([0-9.]+)\b", "\n".join(symbols))]
@@ -217,7 +221,8 @@ class Machine:
 
 
 def older_keys(place):
-    """The one key of an older version goes on as the first of the file of keys, and its folder may be entered by the group; a file in which there is none gets a new key, and a link that leads nowhere stays."""
+    """The one key of an older version goes on as the first of the file of keys, and its folder may be entered by the
+    group; a file in which there is none gets a new key, and a link that leads nowhere stays."""
     moved = "circ: {0}/etc/circ/desk.keys has the key of {0}/etc/circ/desk.key now, as that of keeper\n"
     for at, (older, wanted) in enumerate((("DESKKEY=chosenbytown1\n", "chosenbytown1"), ('# of the town\nDESKKEY="chosenbytown2"\n', "chosenbytown2"), ("DESKKEY='chosenbytown3' \n", "chosenbytown3"), ("DESKKEY=short\n", None),
                                           (f"DESKKEY={'k' * 33}\n", None), ("DESKKEY=a key of a town\n", None), ("\n", None))):
@@ -307,7 +312,8 @@ def scripts(place):
 
 
 def without_git(place, files, name):
-    """A copy of the sources that git knows nothing of, with a small program in the other's place, which tells its version alone; then what is wrong with such a copy is told in a line."""
+    """A copy of the sources that git knows nothing of, with a small program in the other's place, which tells its
+    version alone; then what is wrong with such a copy is told in a line."""
     copy = os.path.join(place, "copy")
     for path in ("tools", "docs", "pages"):
         shutil.copytree(os.path.join(TOP, path), os.path.join(copy, path))

@@ -4,10 +4,11 @@
     tests/gate/pictures.py            compares
     tests/gate/pictures.py --write    writes the pictures anew
 
-The places of a copy and the states of a hold, with the commands that lead from one to another (docs/RULES.md): the arrows are those that random requests on
-small libraries take by the rules in plain Python (tests/reference/desk_rules.py), and no others. The crates (docs/ARCHITECTURE.md): an arrow goes to each crate that one
-stands on by crates.txt, unless another arrow leads there. The plots (docs/SPEED.md) were drawn from figures that each of them has as its description: these are those of the
-document's tables now. They are drawn anew by `bench/plots`.
+The places of a copy and the states of a hold, with the commands that lead from one to another (docs/RULES.md): the
+arrows are those that random requests on small libraries take by the rules in plain Python
+(tests/reference/desk_rules.py), and no others. The crates (docs/ARCHITECTURE.md): an arrow goes to each crate that one
+stands on by crates.txt, unless another arrow leads there. The plots (docs/SPEED.md) were drawn from figures that each
+of them has as its description: these are those of the document's tables now. They are drawn anew by `bench/plots`.
 """
 
 import json
@@ -116,7 +117,8 @@ def crates():
 
 
 def plots():
-    """What is wrong with the plots: each has the figures of the document's tables, is small, and is shown by the document, and one of them by the README."""
+    """What is wrong with the plots: each has the figures of the document's tables, is small, and is shown by the
+    document, and one of them by the README."""
     shown_in = {}
     for path in (figures.SPEED, "README.md"):
         with open(os.path.join(TOP, path), encoding="utf-8") as file:

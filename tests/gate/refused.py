@@ -1,11 +1,14 @@
 #!/usr/bin/env python3
-"""The program where it is refused memory, or room on the disk: it ends with `fault 90` or `fault 91`, what was told is there and nothing else, and it goes on once there is more.
+"""The program where it is refused memory, or room on the disk: it ends with `fault 90` or `fault 91`, what was told is
+there and nothing else, and it goes on once there is more.
 
     tests/gate/refused.py            a fixed sample of the places where it is refused
     tests/gate/refused.py --all      each of them
 
-One request for memory is refused by a library of C (tests/data/refuse.c) that is loaded into the program first: of scripts on a library in memory (a test of crates/desk_tests), of runs on
-files, and of a program that serves; one thread of that; and limits of time on its sockets. Limits of the system on memory and on the size of files refuse all from some place on.
+One request for memory is refused by a library of C (tests/data/refuse.c) that is loaded into the program first: of
+scripts on a library in memory (a test of crates/desk_tests), of runs on files, and of a program that serves; one
+thread of that; and limits of time on its sockets. Limits of the system on memory and on the size of files refuse all
+from some place on.
 """
 
 import http.client
@@ -39,7 +42,8 @@ FOUND_WRONG = (b"wrong", b"an answer")  # what it tells then, but where it had n
 
 
 def under(words, kind, limit, **how):
-    """One run under a limit. SIGXFSZ is ignored, as a supervisor of services has it, so that a write past the limit fails and doesn't kill."""
+    """One run under a limit. SIGXFSZ is ignored, as a supervisor of services has it, so that a write past the limit
+    fails and doesn't kill."""
 
     def before():
         signal.signal(signal.SIGXFSZ, signal.SIG_IGN)
@@ -91,8 +95,8 @@ def places(count, many, everything):
 
 
 def scripts_in_memory(refusing, everything):
-    """Scripts on libraries in memory: a request that is refused memory leaves every row as it was, and is answered when it is asked again; at the end the rows are the same.
-    The test compares, and prints them."""
+    """Scripts on libraries in memory: a request that is refused memory leaves every row as it was, and is answered
+    when it is asked again; at the end the rows are the same. The test compares, and prints them."""
     if not os.path.isfile(TESTS):
         subprocess.run(["rt", "test"], cwd=f"{TOP}/crates/desk_tests", stdin=subprocess.DEVNULL, stdout=subprocess.DEVNULL, stderr=subprocess.DEVNULL, check=False)
     plain = refusing.run([TESTS, SCRIPTS], 0)
@@ -104,7 +108,8 @@ def scripts_in_memory(refusing, everything):
 
     with ThreadPoolExecutor(os.cpu_count()) as pool:
         for number, run in pool.map(one, places(count, 300, everything)):
-            # the test's own work had no memory, or the rows are the same, be it a request's of the desk that was refused or nobody's who noticed
+            # the test's own work had no memory, or the rows are the same, be it a request's of the desk that was
+            # refused or nobody's who noticed
             own = "the test's own" if run.returncode == FAILED and not any(it in run.stderr for it in FOUND_WRONG) and plain.stdout.startswith(run.stdout) else ""
             ends = {(0, plain.stdout, b"refused: 1\n"): "a request's of the desk, asked again", (0, plain.stdout, b"refused: 0\n"): "nobody's"}
             what = own or ends.get((run.returncode, run.stdout, run.stderr), "")
@@ -115,7 +120,8 @@ def scripts_in_memory(refusing, everything):
 
 
 def one_request_in_a_file(folder, refusing, everything):
-    """Runs on a file: where one request for memory is refused the run is answered all the same, or ends with a fault, and then the rows are those before it; sent again it acts once."""
+    """Runs on a file: where one request for memory is refused the run is answered all the same, or ends with a fault,
+    and then the rows are those before it; sent again it acts once."""
     base, path = os.path.join(folder, "ground.db"), os.path.join(folder, "one.db")
     say(base, GROUND + [("a1", ["place-hold", "2", "100", "1"], "hold 1"), ("a2", ["check-out", "2", "11", "1"], "loan 1 due 2026-03-09")])
     before, told = whole(base), Counter()
@@ -144,7 +150,8 @@ def one_request_in_a_file(folder, refusing, everything):
 
 
 def ends_of(base):
-    """How a migration of a library may end where it is refused something: the line, the status and the rows, which are the newest or, after a fault, those that some of the steps leave."""
+    """How a migration of a library may end where it is refused something: the line, the status and the rows, which are
+    the newest or, after a fault, those that some of the steps leave."""
     *earlier, last = stages(whole(base))
     return [(f"{DONE}\n", 0, last), *((f"fault {fault}\n", 3, left) for fault in (90, 91) for left in earlier)]
 
@@ -155,7 +162,8 @@ def schema_left(path):
 
 
 def one_request_of_a_migration(folder, refusing, everything):
-    """A migration of which one request for memory is refused: it is made all the same, or ends with a fault and leaves the rows of before or of a whole step; run again it is made."""
+    """A migration of which one request for memory is refused: it is made all the same, or ends with a fault and leaves
+    the rows of before or of a whole step; run again it is made."""
     for name in HOLDS:
         base, path, told = with_many_rows(os.path.join(folder, f"{name}.db"), name), os.path.join(folder, "migrated.db"), Counter()
         words, ends, after = ["migrate", path], ends_of(base), led_up(whole(base))
@@ -176,7 +184,8 @@ def one_request_of_a_migration(folder, refusing, everything):
 
 
 def end_of(run, port):
-    """What a program that serves still prints and its status, once its last connections are taken up by clients that ask for nothing."""
+    """What a program that serves still prints and its status, once its last connections are taken up by clients that
+    ask for nothing."""
     began = time.monotonic()
     while run.poll() is None and time.monotonic() - began < 120:
         try:
@@ -195,7 +204,8 @@ def fault_answers(*numbers):
 
 
 class RefusedWeb:
-    """A program that serves two workers with three connections each, of which one request for memory is refused, and what it answered to the requests."""
+    """A program that serves two workers with three connections each, of which one request for memory is refused, and
+    what it answered to the requests."""
 
     def __init__(self, refusing, base, path, number, requests):
         self.number, self.requests, self.answers, self.met = number, requests, [], None
@@ -225,8 +235,9 @@ class RefusedWeb:
         return printed in (([], 0), (["fault 90"], 3), (["fault 91"], 3), (["fault threads"], 3))
 
     def due(self, plain, page_before):
-        """What each request may be answered: its reply, save the one at which memory was refused, and those after it where that closed the web, or a thread less has none for
-        the last. A page is the one with the first request's row, if that got its reply."""
+        """What each request may be answered: its reply, save the one at which memory was refused, and those after it
+        where that closed the web, or a thread less has none for the last. A page is the one with the first request's
+        row, if that got its reply."""
         found = []
         for at, ((_, words, _), wanted) in enumerate(zip(self.requests, plain)):
             is_page, is_met = words[0] == "page", at == self.met
@@ -244,9 +255,10 @@ class RefusedWeb:
 
 
 def one_request_of_the_web(folder, refusing, everything):
-    """A program that serves, of which one request for memory is refused: what is sent is answered with its reply. Only the request at which that memory was wanted is told a fault,
-    or gets no answer; where the fault closed the web, what is submitted later is told 92, and the program ends with that fault; else it ends as ever. After a restart each is sent again
-    under its key, and all is there once."""
+    """A program that serves, of which one request for memory is refused: what is sent is answered with its reply. Only
+    the request at which that memory was wanted is told a fault, or gets no answer; where the fault closed the web,
+    what is submitted later is told 92, and the program ends with that fault; else it ends as ever. After a restart
+    each is sent again under its key, and all is there once."""
     base, path, told = os.path.join(folder, "ground.db"), os.path.join(folder, "web.db"), Counter()
     requests = [("s0", ["check-out", "1", "10", "1"], '{"reply":"loan 2 due 2026-03-09"}\n'), ("s1", ["place-hold", "3", "200", "1"], '{"reply":"hold 2"}\n'),
                 ("s2", ["page", "1"], None), ("s3", ["acquire", "77", "700", "1", "1", "900", "Tall Ships"], '{"reply":"ok"}\n')]
@@ -274,8 +286,9 @@ def one_request_of_the_web(folder, refusing, everything):
 
 
 def routes_without_memory(folder, refusing):
-    """A worker makes its routes for its first connection, and again for the next where there was no memory. Each request for memory of the first two connections is refused once:
-    that one is told 90, or its page where the program can do without, and never nothing; the others get their page. The first has more to be refused, the routes."""
+    """A worker makes its routes for its first connection, and again for the next where there was no memory. Each
+    request for memory of the first two connections is refused once: that one is told 90, or its page where the program
+    can do without, and never nothing; the others get their page. The first has more to be refused, the routes."""
     path, due, told = os.path.join(folder, "routes.db"), {answer("200 OK", ANNS_PAGE): "page", answer("503 Service Unavailable", b'{"fault":90}'): "90"}, Counter()
     say(path, GROUND)
 
@@ -307,8 +320,9 @@ def routes_without_memory(folder, refusing):
 
 
 def a_board_that_cannot_grow(folder, refusing):
-    """A check-out that is committed while the board finds no memory for it: it is told 92, and so is what is submitted later; a page is as before; and a new program answers its key
-    with the kept reply, of one loan. Each request for memory of the check-out is refused, the last one first, until that is met."""
+    """A check-out that is committed while the board finds no memory for it: it is told 92, and so is what is submitted
+    later; a page is as before; and a new program answers its key with the kept reply, of one loan. Each request for
+    memory of the check-out is refused, the last one first, until that is met."""
     base, path = os.path.join(folder, "board_ground.db"), os.path.join(folder, "board.db")
     say(base, GROUND)
     lent, page = '{"reply":"loan 1 due 2026-03-09"}\n', '{"reply":"patron 2 owed 0 name Bo Carr"}\n'
@@ -333,7 +347,8 @@ def a_board_that_cannot_grow(folder, refusing):
 
 
 def keys_without_memory(folder, refusing):
-    """A file of keys that is read while a request for memory is refused is told as 90 and never as a bad one, and no library is made then; with memory all goes on, up to the port that is taken or on which nobody listens."""
+    """A file of keys that is read while a request for memory is refused is told as 90 and never as a bad one, and no
+    library is made then; with memory all goes on, up to the port that is taken or on which nobody listens."""
     path, absent, told = os.path.join(folder, "desk.keys"), os.path.join(folder, "absent.db"), Counter()
     put_keys(path, [(f"{at:04}{'n' * 12}", "desk", f"{at:04}{'k' * 28}") for at in range(99)])
     with socket.socket() as taken:
@@ -357,7 +372,8 @@ def keys_without_memory(folder, refusing):
 
 
 def missing_threads(folder, refusing):
-    """A program that serves with so many workers, of which one gets no thread: it leaves at once, the others serve their connections, and a line tells it at the end."""
+    """A program that serves with so many workers, of which one gets no thread: it leaves at once, the others serve
+    their connections, and a line tells it at the end."""
     base, path = os.path.join(folder, "ground.db"), os.path.join(folder, "threads.db")
     for workers in (1, 2, 8):
         for missing in sorted({1, workers}):
@@ -375,8 +391,9 @@ def missing_threads(folder, refusing):
 
 
 def sockets_without_a_limit(folder, refusing):
-    """A program that serves, where a socket takes no limit of time for reading, or none for writing: such a client could hold up a worker for ever, so it gets no answer, nothing is
-    done for it, and it counts as one of the connections."""
+    """A program that serves, where a socket takes no limit of time for reading, or none for writing: such a client
+    could hold up a worker for ever, so it gets no answer, nothing is done for it, and it counts as one of the
+    connections."""
     base, path = os.path.join(folder, "ground.db"), os.path.join(folder, "limits.db")
     for name in ("SO_RCVTIMEO", "SO_SNDTIMEO"):
         copied(base, path)
@@ -392,7 +409,8 @@ def sockets_without_a_limit(folder, refusing):
 
 
 def begins(limit):
-    """Whether the system can begin a run under this limit of memory at all: one that opens nothing says that its words are not understood."""
+    """Whether the system can begin a run under this limit of memory at all: one that opens nothing says that its words
+    are not understood."""
     return under(["nothing"], resource.RLIMIT_AS, limit).stdout == b"words not understood\n"
 
 
@@ -409,7 +427,8 @@ def chosen(limits, everything):
 
 
 def memory(folder, everything):
-    """`file` and `import` under falling limits of memory, from one that is ample down to one under which the program can't begin."""
+    """`file` and `import` under falling limits of memory, from one that is ample down to one under which the program
+    can't begin."""
     base, path, copies = (os.path.join(folder, it) for it in ("base.db", "small.db", "copies.csv"))
     say(base, GROUND)
     books = "".join(f"{copy},500,Maps of the North,1,1,1500,end\n" for copy in range(1000, 1300))
@@ -473,7 +492,8 @@ OK = '{"reply":"ok"}\n'
 
 
 def are_right(answers, lines, status, where):
-    """Each answer is the one that is due or a fault, or there is none; once a fault closed the web all are told 92; and the program ends with that fault, or as ever."""
+    """Each answer is the one that is due or a fault, or there is none; once a fault closed the web all are told 92;
+    and the program ends with that fault, or as ever."""
     told = [it for it in lines if it != "fault threads"]
     check(f"the end of {where}: {lines}", (told in ([], ["fault 90"], ["fault 91"]), lines.count("fault threads") < 2, status), (True, True, 3 if lines else 0))
     others = [it for it in answers if it not in (OK, NO_ANSWER, *fault_answers(90, 91, 92))]
@@ -483,7 +503,8 @@ def are_right(answers, lines, status, where):
 
 
 def are_repeated(path, answers, where):
-    """What got a reply is there, and nothing that wasn't asked for; and all is answered under the same keys, by a program with memory, and is there once."""
+    """What got a reply is there, and nothing that wasn't asked for; and all is answered under the same keys, by a
+    program with memory, and is there once."""
     copies = [copy for (copy,) in rows(path, "SELECT copy FROM copies WHERE copy >= 2000 ORDER BY copy")]
     told = [2000 + n for n, it in enumerate(answers) if it == OK]
     check(f"what was told is there, {where}", [it for it in told if it not in copies], [])
@@ -496,8 +517,8 @@ def are_repeated(path, answers, where):
 
 
 def serving_memory(folder, everything):
-    """`serve` under falling limits of memory: it listens, or ends with a fault; where it listens each answer is the one that is due, or a fault. What got a reply is there, and all is
-    answered afterwards under the same keys."""
+    """`serve` under falling limits of memory: it listens, or ends with a fault; where it listens each answer is the
+    one that is due, or a fault. What got a reply is there, and all is answered afterwards under the same keys."""
     base, path = os.path.join(folder, "base.db"), os.path.join(folder, "served.db")
     lowest, told = least(begins, STEP, 2**31), Counter()
 
@@ -525,8 +546,9 @@ def serving_memory(folder, everything):
 
 
 def refused_after_listening(folder, refusing):
-    """A program that serves, and whose desk gets no more memory once a question and so many requests were answered: the next request is told the fault, each later one 92, pages stay,
-    and the program ends with the fault. Afterwards all is answered under the same keys."""
+    """A program that serves, and whose desk gets no more memory once a question and so many requests were answered:
+    the next request is told the fault, each later one 92, pages stay, and the program ends with the fault. Afterwards
+    all is answered under the same keys."""
     base, path, told = os.path.join(folder, "base.db"), os.path.join(folder, "grown.db"), Counter()
 
     def words_for(port):
@@ -562,7 +584,8 @@ def said_on_a_full_disk(words, out):
 
 
 def disk(folder, everything):
-    """`import` where the files may not grow past a limit: the rows that were told are there, and no other; taken in again without the limit the file is whole."""
+    """`import` where the files may not grow past a limit: the rows that were told are there, and no other; taken in
+    again without the limit the file is whole."""
     base, path, copies, library = os.path.join(folder, "base.db"), os.path.join(folder, "full.db"), os.path.join(folder, "books.csv"), Library()
     for key, words, _ in GROUND:
         library.handle(key, words)
@@ -591,7 +614,8 @@ def disk(folder, everything):
 
 
 def disk_of_a_migration(folder, everything):
-    """A migration where the files may not grow past a limit: it is made, or told as 91 and the rows of before or of a whole step are there; without the limit it is made."""
+    """A migration where the files may not grow past a limit: it is made, or told as 91 and the rows of before or of a
+    whole step are there; without the limit it is made."""
     for name in HOLDS:
         base, path, told = os.path.join(folder, f"{name}.db"), os.path.join(folder, "narrow.db"), Counter()
         words, ends, size = ["migrate", path], [it for it in ends_of(base) if it[0] != "fault 90\n"], os.path.getsize(base)

@@ -3,9 +3,10 @@
 
     tests/gate/rows.py
 
-Each check that the table of commands in docs/RULES.md has, but used-up numbers, has to be the refusal that some worked row states of that command. Each definition to which
-the picture of a history leads, and each of the replies, has to be gone through by a row. And the two sides of each row have to be the same when they are computed in plain
-Python (tests/lib/antt), which shares nothing with the prover.
+Each check that the table of commands in docs/RULES.md has, but used-up numbers, has to be the refusal that some worked
+row states of that command. Each definition to which the picture of a history leads, and each of the replies, has to be
+gone through by a row. And the two sides of each row have to be the same when they are computed in plain Python
+(tests/lib/antt), which shares nothing with the prover.
 """
 
 import re

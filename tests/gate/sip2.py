@@ -1,9 +1,11 @@
 #!/usr/bin/env python3
-"""Runs `tools/sip2` before a program that serves, and speaks as self-service machines do: each message, right and wrong, with wrong checksums, again under its number, many machines at once, and while the desk is away.
+"""Runs `tools/sip2` before a program that serves, and speaks as self-service machines do: each message, right and
+wrong, with wrong checksums, again under its number, many machines at once, and while the desk is away.
 
     tests/gate/sip2.py
 
-The checksums of the first messages are those of the protocol's own examples. Expected answers are worked out by hand from docs/RULES.md and the protocol.
+The checksums of the first messages are those of the protocol's own examples. Expected answers are worked out by hand
+from docs/RULES.md and the protocol.
 """
 
 import os
@@ -53,7 +55,8 @@ class Machine:
         return self.file.readline().decode().rstrip("\r\n")
 
     def says(self, text):
-        """What a message is answered, without the number and the checksum, which are compared; a date is shown as such."""
+        """What a message is answered, without the number and the checksum, which are compared; a date is shown as
+        such."""
         self.number = (self.number + 1) % 10
         told = self.sends(numbered(text, self.number))
         body, mark, end = told.rpartition(f"AY{self.number}AZ")

@@ -3,9 +3,9 @@
 
     tests/gate/stories.py [--rules] [FILE ..]      the stories of these files of tests/data/stories, or of all; with --rules without the program, by the rules in plain Python alone
 
-The stories stand in tests/data/stories/*.txt. Their answers are those of the rules, worked out by hand; none was taken from the program.
-Each story has a library of its own: a copy of the small one that the fifteen requests of `GROUND` make. As many stories are run at
-a time as there are processors. The lines of a story:
+The stories stand in tests/data/stories/*.txt. Their answers are those of the rules, worked out by hand; none was taken
+from the program. Each story has a library of its own: a copy of the small one that the fifteen requests of `GROUND`
+make. As many stories are run at a time as there are processors. The lines of a story:
 
     story SENTENCE                 begins a story, and says what it shows
     new                            its library isn't there yet, in place of the small one
@@ -28,9 +28,9 @@ a time as there are processors. The lines of a story:
     | TEXT                         a line of the answer, where that has several
     # TEXT                         a remark
 
-The status of a run follows from its answer. Where a story writes nothing past the desk, its answers (those of pairs too) and its
-rows at the end are compared with the rules in plain Python as well, and its rows with the laws of places, holds and accounts, which
-`circ audit` looks at too.
+The status of a run follows from its answer. Where a story writes nothing past the desk, its answers (those of pairs
+too) and its rows at the end are compared with the rules in plain Python as well, and its rows with the laws of places,
+holds and accounts, which `circ audit` looks at too.
 """
 
 import copy

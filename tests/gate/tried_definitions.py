@@ -1,10 +1,13 @@
 #!/usr/bin/env python3
-"""Tries what changes definitions by chance: what `tests/tools/definitions` tells of changes of which it is known what they come to.
+"""Tries what changes definitions by chance: what `tests/tools/definitions` tells of changes of which it is known what
+they come to.
 
     tests/gate/tried_definitions.py
 
-Changes that a worked row has to notice, one that random histories have to, some that mean the same, and one that leaves a case without an answer, of which nothing is said. Then runs of the
-tool in a copy of the repository: what is left fails unless it is known, a known one without a reason is none, and a row with a wrong answer fails without any change.
+Changes that a worked row has to notice, one that random histories have to, some that mean the same, and one that
+leaves a case without an answer, of which nothing is said. Then runs of the tool in a copy of the repository: what is
+left fails unless it is known, a known one without a reason is none, and a row with a wrong answer fails without any
+change.
 """
 
 import os

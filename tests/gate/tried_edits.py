@@ -1,11 +1,13 @@
 #!/usr/bin/env python3
-"""Tries what tries the must-fail edits: on a crate of three functions, which wrong bodies and which harmless ones `tests/tools/edits` tells.
+"""Tries what tries the must-fail edits: on a crate of three functions, which wrong bodies and which harmless ones
+`tests/tools/edits` tells.
 
     tests/gate/tried_edits.py
 
-A body that is wrong has to be told as refused, whether or not what it calls is wrong too. One that means the same as before has to be told as not refused, also beside
-one that makes it follow; and so has one that isn't well typed, or whose text isn't there. Beside a gate that is at work the edits of a crate are tried once it is
-proved, and none is where the gate fails.
+A body that is wrong has to be told as refused, whether or not what it calls is wrong too. One that means the same as
+before has to be told as not refused, also beside one that makes it follow; and so has one that isn't well typed, or
+whose text isn't there. Beside a gate that is at work the edits of a crate are tried once it is proved, and none is
+where the gate fails.
 """
 
 import os
@@ -78,8 +80,8 @@ BESIDE = {
 
 
 def told_of(edits, beside=None):
-    """What `tests/tools/edits` says of these edits, by name, with its last line and its status, and whether it left what its checks kept; beside a gate that has said
-    this, if it is given."""
+    """What `tests/tools/edits` says of these edits, by name, with its last line and its status, and whether it left
+    what its checks kept; beside a gate that has said this, if it is given."""
     with tempfile.TemporaryDirectory(prefix="tried-edits-") as room:
         for folder in ("lib", "tools"):
             shutil.copytree(f"{TOP}/tests/{folder}", f"{room}/tests/{folder}")

@@ -1,11 +1,13 @@
 #!/usr/bin/env python3
-"""Tries what makes wrong bodies by chance: on a crate of four functions, of which one claims little and one nothing, what `tests/tools/mutants` tells.
+"""Tries what makes wrong bodies by chance: on a crate of four functions, of which one claims little and one nothing,
+what `tests/tools/mutants` tells.
 
     tests/gate/tried_mutants.py
 
-Wrong bodies of the function whose contract says all have to be refused, and those of the one that claims little to be told as left and to fail the run, unless they stand in
-the file of known ones. The one that claims nothing is left out. Before that: when a check refuses a body by a clause, and when by a
-name only, and what is made of a proof that names what is gone.
+Wrong bodies of the function whose contract says all have to be refused, and those of the one that claims little to be
+told as left and to fail the run, unless they stand in the file of known ones. The one that claims nothing is left out.
+Before that: when a check refuses a body by a clause, and when by a name only, and what is made of a proof that names
+what is gone.
 """
 
 import os
@@ -66,7 +68,8 @@ pub returns-else-wanted : goal.returns-else-wanted
 returns-else-wanted c = search rules
 """
 
-# What a check says of a body of which a proof by hand answers the clause `whole`, under a name that it has no more; and the search the clause `sound`.
+# What a check says of a body of which a proof by hand answers the clause `whole`, under a name that it has no more;
+# and the search the clause `sound`.
 SAID = """./proofs/least/Answers.antt:5:55: error: `returns-then-le-clause-whole`: `goal.returns-then-le-clause-whole`: module `Goals` has no `returns-then-le-clause-whole`
 fn numbers::next: proved
 note: src/lib.rt:9:1: it is not proved that what the function ensures holds when it returns (`returns-then-ge-clause-{clause}`)
@@ -74,7 +77,8 @@ fn numbers::least: not proved
 only=2 proved=1
 """
 
-# A proof by hand of a function that was turned about and lost a call, and what a check says of the names that are gone.
+# A proof by hand of a function that was turned about and lost a call, and what a check says of the names that are
+# gone.
 ANSWERS = """use Rattle.std.proofs.Common.{arith}
 use Rattle.numbers.proofs.most.Goals as goal
 

@@ -49,7 +49,8 @@ def deaf_port():
 
 
 def each_route(folder, workers):
-    """Each route with its command, and each status. A program that tells a fault to all renewals, or breaks every connection, fails here: that there is memory no clause can say."""
+    """Each route with its command, and each status. A program that tells a fault to all renewals, or breaks every
+    connection, fails here: that there is memory no clause can say."""
     path = a_library(folder, "routes.db")
     hold = b'{"branch":1,"title":100}'
     posted = [
@@ -104,7 +105,8 @@ def each_route(folder, workers):
 
 
 def from_a_day_on(folder, workers):
-    """A patron's hold from a day on, by the route: until its day others borrow and renew, and on its day a copy that comes in is kept for it."""
+    """A patron's hold from a day on, by the route: until its day others borrow and renew, and on its day a copy that
+    comes in is kept for it."""
     path = a_library(folder, "from.db")
     body = lambda day: b'{"branch":1,"from":"' + day + b'","title":100}'
     places = lambda key: ("POST", "/patrons/2/holds", {**BO, "Request-Key": key})
@@ -119,7 +121,8 @@ def from_a_day_on(folder, workers):
         ("POST", "/patrons/1/holds", {**BO, "Request-Key": "h3"}, body(b"2026-03-05"), 403, b'{"refusal":81}'),
         ("POST", "/patrons/8/holds", {**BO, "Request-Key": "h3"}, body(b"2026-03-05"), 403, b'{"refusal":81}'),
         (*places("h3"), body(b"2026-03-05"), 200, b'{"reply":"hold 1"}'),
-        # the same key again: the same request, also with its members in another order, another day, and the hold of no day
+        # the same key again: the same request, also with its members in another order, another day, and the hold of no
+        # day
         (*places("h3"), b'{ "title": 100, "from": "2026\\u002d03-05", "branch": 1 }', 200, b'{"reply":"hold 1"}'),
         (*places("h3"), body(b"2026-03-06"), 409, b'{"refusal":80}'),
         (*places("h3"), HOLD, 409, b'{"refusal":80}'),
@@ -154,7 +157,8 @@ def from_a_day_on(folder, workers):
 
 
 def grace_days(folder, workers):
-    """The desk sets grace days over the web: a loan within those that its rule had when it was made costs nothing and shows no charge, a later one costs each day late, and no patron may set them."""
+    """The desk sets grace days over the web: a loan within those that its rule had when it was made costs nothing and
+    shows no charge, a later one costs each day late, and no patron may set them."""
     path = a_library(folder, "grace.db")
     desks = lambda key, *words: ("POST", "/desk", {"Desk-Key": DESK_KEY, "Request-Key": key}, json.dumps(words).encode())
     asked = [
@@ -197,15 +201,17 @@ def grace_days(folder, workers):
 
 
 def of_stories():
-    """What the stories of the desk's questions and of corrections ask, each as a list: the step, the key, the words and the answer. Those of corrections go on after those of what is found."""
+    """What the stories of the desk's questions and of corrections ask, each as a list: the step, the key, the words
+    and the answer. Those of corrections go on after those of what is found."""
     paths = [os.path.join(TOP, "tests", "data", "stories", name) for name in ("asking.txt", "settings_shown.txt", "corrections.txt")]
     stories = [story for path in paths for story in stories_of(path) if story.is_plain()]
     return [[(step, key, words, "\n".join(step.answer)) for step in story.steps for key, words in step.requests()] for story in stories]
 
 
 def asking(folder, workers):
-    """The stories of the desk's questions and of corrections by POST /desk, and by `circ send`, those of patrons by their routes: each answer, and each row at the end. A patron's key opens the desk's route to none
-    of them, and no route of patrons has one."""
+    """The stories of the desk's questions and of corrections by POST /desk, and by `circ send`, those of patrons by
+    their routes: each answer, and each row at the end. A patron's key opens the desk's route to none of them, and no
+    route of patrons has one."""
     asked, known = of_stories(), Library()
     for key, words, _ in GROUND:
         known.handle(key, words)
@@ -247,8 +253,9 @@ EXAMPLES = {
     "card-key": ["1", "newkey000001"], "amend-patron": ["1", "1", "Ann"], "amend-branch": ["1", "5", "Main"], "amend-title": ["100", "Mine"], "amend-copy": ["10", "1", "0"], "rehome": ["10", "2"],
 }
 
-# What is asked at random, of few copies, holds and loans, which get in each other's way. Letters stand for a patron, a copy, a branch, a title, a hold, a loan, a day to come, a number of days, a
-# number from which a list goes on, today, a kind, a name, a card key, a text to be searched, and weekdays; S for one of the requests that set something.
+# What is asked at random, of few copies, holds and loans, which get in each other's way. Letters stand for a patron, a
+# copy, a branch, a title, a hold, a loan, a day to come, a number of days, a number from which a list goes on, today,
+# a kind, a name, a card key, a text to be searched, and weekdays; S for one of the requests that set something.
 AT_RANDOM = ["check-out P C B", "check-out P C B", "check-out P C B", "check-in C B", "check-in C B", "check-in C B", "check-in C B", "place-hold P T B", "place-hold-from P T B D",
              "place-hold-from P T B D", "cancel-hold H", "renew L", "unshelve H", "unshelve-cancelled H", "missing C", "begin-day D", "grace 1 1 G", "card-key P Y", "amend-patron P K X", "amend-branch B G X", "amend-title T X", "amend-copy C K 900", "rehome C B", "S"]
 SET_AT_RANDOM = ["close-day B D", "close-day B D", "open-day B D", "week B M", "kind K 9 9 1000000", "rule K 1 3 2 10 50"]
@@ -320,7 +327,8 @@ class Turns:
 
 
 def at_random(folder, workers):
-    """Random requests of the desk and of patrons, on a small library: each answer is that of the rules, and so is a page and a question after each, and each row at the end."""
+    """Random requests of the desk and of patrons, on a small library: each answer is that of the rules, and so is a
+    page and a question after each, and each row at the end."""
     path, seed, clerks = a_library(folder, "random.db"), random.randrange(10**9), CLERKS if workers == 2 else None
     turns, draw = Turns(seed, clerks), random.Random(seed + 1)
     for key, words, _ in GROUND:
@@ -347,7 +355,8 @@ def at_random(folder, workers):
 
 
 def by_curl(folder, workers):
-    """Each route by curl, as docs/USING.md shows it over the library that the day at the desk leaves, and a body for which curl waits to be told to go on."""
+    """Each route by curl, as docs/USING.md shows it over the library that the day at the desk leaves, and a body for
+    which curl waits to be told to go on."""
     runs.type_page(folder, "DAY-AT-THE-DESK.md", 30)
     with open(os.path.join(TOP, "docs", "USING.md"), encoding="utf-8") as file:
         shown = file.read().partition("\n## The web\n")[2]
@@ -482,7 +491,8 @@ def reset(port, bytes_, pause=0.0):
 
 
 def hostile_bytes(folder, workers):
-    """What a hostile client sends gets its answer, or none where the connection breaks; then Ann's page is answered as ever, and the rows stay."""
+    """What a hostile client sends gets its answer, or none where the connection breaks; then Ann's page is answered as
+    ever, and the rows stay."""
     path, long, longer = a_library(folder, "hostile.db"), page_with(2, 8_136), page_with(2, 8_137)
     before, broken = whole(path), [page_with(32)[:30], hold_with(HOLD)[:-1], hold_with(HOLD, key=b"h0")[:40], desk_with(b'["withdraw","10"]')[:-2]]
     # reads fail in heads at the limit too, also in the last byte, and past it
@@ -523,8 +533,9 @@ LOST = len(LOST_HOLDS)
 
 
 def is_lost(serving, path, number):
-    """Whether the write of an answer to a hold fails: the connection is broken while the program stands still, before it has read the request; what was sent is read all the
-    same, and acted on. The same request again gets the kept reply."""
+    """Whether the write of an answer to a hold fails: the connection is broken while the program stands still, before
+    it has read the request; what was sent is read all the same, and acted on. The same request again gets the kept
+    reply."""
     text, reply = LOST_HOLDS[number]
     _, _, title, branch = text.split()
     request = hold_with(f'{{"branch":{branch},"title":{title}}}'.encode(), key=f"l{number}".encode())
@@ -543,7 +554,8 @@ def is_lost(serving, path, number):
 
 
 def no_key_is_told(folder):
-    """Whatever is asked and shown, no answer, line or message has a key of the desk or of a clerk, a card key or a key of a request in it."""
+    """Whatever is asked and shown, no answer, line or message has a key of the desk or of a clerk, a card key or a key
+    of a request in it."""
     path, heard = a_library(folder, "secret.db"), []
     keys = card, wrong, desk_key, own, clerks_key = "9card9card9", "8wrong8wrong", "7desk7desk7", "6request-6", "5clerk5clerk5"
     good, bad = put_keys(os.path.join(folder, "good.keys"), [("ann", "desk", clerks_key)], 0o644), put_keys(os.path.join(folder, "bad.keys"), f"ann desk {clerks_key}\nbo desk {clerks_key}\n".encode())
@@ -613,7 +625,8 @@ def one_waits(folder, workers):
 
 
 def a_silent_client(folder, workers):
-    """A client that sends nothing is let go after half a minute; it keeps one worker waiting and no other. A busy machine may be late, and is asked thrice at most."""
+    """A client that sends nothing is let go after half a minute; it keeps one worker waiting and no other. A busy
+    machine may be late, and is asked thrice at most."""
     path = a_library(folder, f"silent{workers}.db")
     for _ in range(3):
         with Serving(path, 2, workers=workers) as serving:
@@ -629,7 +642,8 @@ def a_silent_client(folder, workers):
 
 
 def a_damaged_patron(folder, workers):
-    """Every page is made at the start, so a damaged patron is told in place of the first line, and nobody is served."""
+    """Every page is made at the start, so a damaged patron is told in place of the first line, and nobody is
+    served."""
     path = a_library(folder, "patron.db")
     runs.write(path, "UPDATE patrons SET card_key = 'short' WHERE patron = 2")
     before = whole(path)
@@ -641,7 +655,8 @@ def a_damaged_patron(folder, workers):
 
 
 def a_damaged_copy(folder, workers):
-    """The request that meets a fault of the desk is told it, each later one that the hall is closed; pages stay, and a line tells the fault."""
+    """The request that meets a fault of the desk is told it, each later one that the hall is closed; pages stay, and a
+    line tells the fault."""
     path = a_library(folder, "copy.db")
     runs.write(path, "UPDATE copies SET condition = 3 WHERE copy = 20")
     before = whole(path)
@@ -687,7 +702,8 @@ def no_network(folder):
 
 
 def other_addresses():
-    """Addresses of this machine besides the one that is served: another of its loopback, and those by which it goes to others, which it needn't have. Nothing is sent."""
+    """Addresses of this machine besides the one that is served: another of its loopback, and those by which it goes to
+    others, which it needn't have. Nothing is sent."""
     found = [(socket.AF_INET, "127.0.0.2"), (socket.AF_INET6, "::1")]
     for family, outside in ((socket.AF_INET, "192.0.2.1"), (socket.AF_INET6, "2001:db8::1")):
         with contextlib.suppress(OSError), socket.socket(family, socket.SOCK_DGRAM) as way:
@@ -712,7 +728,8 @@ def this_machine_alone(folder):
 
 
 def one_program_at_a_time(folder):
-    """While a program serves a library, every other run on its file, or on a link to it, tries for two seconds and is told 91. The two files stay as they are, and the program serves on."""
+    """While a program serves a library, every other run on its file, or on a link to it, tries for two seconds and is
+    told 91. The two files stay as they are, and the program serves on."""
     path, link, copies = a_library(folder, "one.db"), os.path.join(folder, "link.db"), os.path.join(folder, "one.csv")
     os.symlink(path, link)
     with open(copies, "w", encoding="utf-8") as file:
@@ -737,7 +754,8 @@ DATA_PIECES = 152  # where the system's account of a connection has how many pie
 
 
 def in_one_write(folder, workers):
-    """An answer comes in one piece of its connection, and that of a desk as that of a page and of nothing that is there."""
+    """An answer comes in one piece of its connection, and that of a desk as that of a page and of nothing that is
+    there."""
     path = a_library(folder, "pieces.db")
     asked = [(PAGE_OF_ANN, answer("200 OK", ANNS_PAGE)), (desk_with(b'["page","1"]'), answer("200 OK", ANNS_PAGE)), (b"GET /nowhere HTTP/1.1\r\n\r\n", answer("404 Not Found", b'{"status":404}'))]
     with Serving(path, len(asked), workers=workers) as serving:
@@ -750,8 +768,8 @@ def in_one_write(folder, workers):
 
 
 def still_sending(folder, workers):
-    """A client that still sends once its answer is there gets it whole: the close waits for it, and what it sends is left alone. A connection that is cut at once is reset,
-    and the answer is lost."""
+    """A client that still sends once its answer is there gets it whole: the close waits for it, and what it sends is
+    left alone. A connection that is cut at once is reset, and the answer is lost."""
     path = a_library(folder, "sending.db")
     too_long = f"POST /desk HTTP/1.1\r\nDesk-Key: {DESK_KEY}\r\nRequest-Key: d1\r\nContent-Length: 65537\r\n\r\n".encode()
     asked = [(too_long, answer("413 Payload Too Large", b'{"status":413}')), (PAGE_OF_ANN, answer("200 OK", ANNS_PAGE))]
@@ -767,7 +785,8 @@ def still_sending(folder, workers):
 
 
 def a_full_output(folder, workers):
-    """Where the port can't be told nobody is served: the program ends by itself, though nobody asks for its connections."""
+    """Where the port can't be told nobody is served: the program ends by itself, though nobody asks for its
+    connections."""
     path = a_library(folder, "silent.db")
     before, words = whole(path), ["serve", path, str(free_port()), str(workers), "3", DESK_KEY]
     with open("/dev/full", "wb") as full:
@@ -777,7 +796,8 @@ def a_full_output(folder, workers):
 
 
 def on_a_terminal(folder):
-    """A person at a terminal is told that the library is being opened, before the program listens. Elsewhere nothing is told, as is compared at the end of each program that serves."""
+    """A person at a terminal is told that the library is being opened, before the program listens. Elsewhere nothing
+    is told, as is compared at the end of each program that serves."""
     path = a_library(folder, "terminal.db")
     ours, theirs = pty.openpty()
     try:

@@ -4,13 +4,17 @@
     tests/gate/words.py            compares
     tests/gate/words.py --write    writes the copies of the table of commands anew first: in the manual page and the desk's page
 
-The table of commands (`crates/terms/src/form.rt`): each command and its parts stand so in the manual page, its name in the completion for bash
-and in the table of the rules. The numbers of refusals and faults (`crates/terms/src/refusal.rt`, `fault.rt`): what each means stands in one way in the
-program's messages (`crates/messages/src/meanings.rt`), the manual page and the rules. The runs of the usage are those of the manual page, and the newest
-version of CHANGES.md and its schema are the program's. Each edit that `docs/WRONG-BODIES.md` names is there, in the crate and the function under which it stands, and each field of the headline has its item; its table of wrong bodies by chance adds up. Each name in backquotes that only code
-can have (with an underscore, or capitals within) in the documents of NAMING stands in a source, or is that of a file. The table of the
-files that the headline's words stand in (`docs/PROOFS.md`) is the one that `tests/tools/headline_files` makes, and so is that of the files that make it about the requests and the database.
-Each link of a document within the repository leads to a file that is there, and to one of its headings.
+The table of commands (`crates/terms/src/form.rt`): each command and its parts stand so in the manual page, its name in
+the completion for bash and in the table of the rules. The numbers of refusals and faults
+(`crates/terms/src/refusal.rt`, `fault.rt`): what each means stands in one way in the program's messages
+(`crates/messages/src/meanings.rt`), the manual page and the rules. The runs of the usage are those of the manual page,
+and the newest version of CHANGES.md and its schema are the program's. Each edit that `docs/WRONG-BODIES.md` names is
+there, in the crate and the function under which it stands, and each field of the headline has its item; its table of
+wrong bodies by chance adds up. Each name in backquotes that only code can have (with an underscore, or capitals
+within) in the documents of NAMING stands in a source, or is that of a file. The table of the files that the headline's
+words stand in (`docs/PROOFS.md`) is the one that `tests/tools/headline_files` makes, and so is that of the files that
+make it about the requests and the database. Each link of a document within the repository leads to a file that is
+there, and to one of its headings.
 """
 
 import os
@@ -45,7 +49,8 @@ def put(path, pattern, made):
 
 
 def heads(manual, table):
-    """The commands of the manual page with their parts, as the table has them; what is said of each stays, and a new one has nothing said of it yet."""
+    """The commands of the manual page with their parts, as the table has them; what is said of each stays, and a new
+    one has nothing said of it yet."""
     listed = manual[manual.index(".Sh COMMANDS") : manual.index(".Sh FILES")]
     before, *parts = re.split(r"^\.It Cm ", listed, flags=re.M)
     *parts, last = parts
@@ -85,7 +90,8 @@ def rules():
 
 
 def wrong_bodies():
-    """The edits of the document of wrong bodies, each as its crate, its name and the function beside which it stands; the function is None among the fields of the headline."""
+    """The edits of the document of wrong bodies, each as its crate, its name and the function beside which it stands;
+    the function is None among the fields of the headline."""
     text = re.sub(r"\n  +", " ", read("docs/WRONG-BODIES.md"))
     bodies, _, rest = text.partition("\n## The headline")
     for crate, listed in re.findall(r"^### `(\w+)`\n\n((?:- .*\n)+)", bodies, re.M):
@@ -108,14 +114,16 @@ def is_refused_in(crate, name, function):
 
 
 def fields_of_headline():
-    """The fields of the headline: those of the record, and those of the document of wrong bodies, in which each has an edit."""
+    """The fields of the headline: those of the record, and those of the document of wrong bodies, in which each has an
+    edit."""
     record = read("crates/desk/specs/Headline.antt").partition("pub record Headline ")[2]
     listed = re.sub(r"\n  +", " ", read("docs/WRONG-BODIES.md")).partition("\n## The headline")[2].partition("\n## ")[0]
     return re.findall(r"^  pub (\w+) :", record, re.M), re.findall(r"^- `(\w+)`: .*`\w+`", listed, re.M)
 
 
 def by_chance():
-    """The table of wrong bodies by chance, of what `tests/tools/mutants` printed: the numbers of each crate, by all seeds together, and of all crates by each seed."""
+    """The table of wrong bodies by chance, of what `tests/tools/mutants` printed: the numbers of each crate, by all
+    seeds together, and of all crates by each seed."""
     made = re.search(r"^<!-- by chance: tests/tools/mutants .*-->\n\n```\n(.*?)```\n\n<!-- by chance: end -->$", read("docs/WRONG-BODIES.md"), re.M | re.S)[1]
     rows = [(line.startswith("all,"), [int(it) for it in line.split()[-5:]]) for line in made.splitlines()[1:]]
     return [it for is_of_all, it in rows if not is_of_all], [it for is_of_all, it in rows if is_of_all]
@@ -150,7 +158,8 @@ def headings(path):
 
 
 def links():
-    """The links of documents to files and headings of the repository: each with its document, and whether it leads there."""
+    """The links of documents to files and headings of the repository: each with its document, and whether it leads
+    there."""
     documents = [it for it in os.listdir(TOP) if it.endswith(".md")] + [f"docs/{it}" for it in os.listdir(f"{TOP}/docs") if it.endswith(".md")]
     for document in sorted(documents):
         for target in re.findall(r"\]\(([^()\s]+)\)", read(document)):

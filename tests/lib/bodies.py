@@ -1,4 +1,5 @@
-"""The bodies of a crate's functions, and what they are made of: by brackets and lines, over sources as `rt fmt` leaves them."""
+"""The bodies of a crate's functions, and what they are made of: by brackets and lines, over sources as `rt fmt` leaves
+them."""
 
 import os
 import re
@@ -7,8 +8,9 @@ from collections import namedtuple
 # A piece of a source: its sort, its text, and where it begins and ends.
 Token = namedtuple("Token", "sort text at end")
 
-# A function with a body: its path below the crate, as a check prints it; its file; where its body begins and ends, with the braces; whether a contract says what it
-# gives, which is its own or that of a trait; and, of a function that could stand twice under two names, its first and its last line, else nothing.
+# A function with a body: its path below the crate, as a check prints it; its file; where its body begins and ends,
+# with the braces; whether a contract says what it gives, which is its own or that of a trait; and, of a function that
+# could stand twice under two names, its first and its last line, else nothing.
 Body = namedtuple("Body", "function path at end claims lines", defaults=(None,))
 
 TOKENS = re.compile(
@@ -40,7 +42,8 @@ def closing(pieces, at):
 
 
 def parted(pieces, first, last):
-    """What stands between commas among the pieces from first to before last: each as the places of its first and its last piece."""
+    """What stands between commas among the pieces from first to before last: each as the places of its first and its
+    last piece."""
     found, begun, here = [], first, first
     while here < last:
         if pieces[here].text in OPENED:
@@ -65,7 +68,8 @@ def module_of(path):
 
 
 def bodies_of(text, path, kinds):
-    """The bodies in a file. A type's own functions have the path of the module that declares the type, which is given for each type."""
+    """The bodies in a file. A type's own functions have the path of the module that declares the type, which is given
+    for each type."""
     lines, found, owner, starts, is_of_trait = text.split("\n"), [], [], [0], False
     for line in lines:
         starts.append(starts[-1] + len(line) + 1)
@@ -112,7 +116,8 @@ def opens(lines, at, indent):
 
 
 def owner_of(head, module, kinds):
-    """The words of the path below which a check prints what stands in an `impl` or a trait that begins so in a module."""
+    """The words of the path below which a check prints what stands in an `impl` or a trait that begins so in a
+    module."""
     head = " ".join(head.split())
     trait = re.match(r"(?:pub(?:\([a-z ]+\))? )?trait (\w+)", head)
     if trait:
@@ -139,7 +144,8 @@ def angled(text, at):
 
 
 def words_of(kind, own):
-    """The words by which a path names a type or a trait: its own, and those in its angle brackets, without lifetimes and the parameters of the `impl`."""
+    """The words by which a path names a type or a trait: its own, and those in its angle brackets, without lifetimes
+    and the parameters of the `impl`."""
     first, _, rest = re.sub(r"&?'\w+,? ?|\bmut |\bdyn ", "", kind).partition("<")
     inner = [word for path in re.findall(r"\w+(?:::\w+)*", rest) for word in path.split("::") if word not in own and word != "_"]
     return [first.split("::")[-1], *[it[0].upper() + it[1:] for it in inner]]

@@ -1,4 +1,5 @@
-"""How a script of the gate compares and ends: what differs is told at once, the script goes on, and its last line says how much passed and how much failed."""
+"""How a script of the gate compares and ends: what differs is told at once, the script goes on, and its last line says
+how much passed and how much failed."""
 
 import os
 import sys
@@ -66,7 +67,8 @@ def none(what, found):
 
 
 def part(work, *given):
-    """What a part of a script gives. One that ends by an error gives nothing and counts as a failure, and the other parts go on."""
+    """What a part of a script gives. One that ends by an error gives nothing and counts as a failure, and the other
+    parts go on."""
     try:
         return work(*given)
     except NoFurther:
@@ -77,7 +79,8 @@ def part(work, *given):
 
 
 def apart(work, *given):
-    """What a part gives that is run in another process, and how much passed and failed in it: `count` takes these in where the script is."""
+    """What a part gives that is run in another process, and how much passed and failed in it: `count` takes these in
+    where the script is."""
     before = dict(counts)
     try:
         made = part(work, *given)

@@ -1,4 +1,5 @@
-"""A server before the pages in tests: it hands out the pages with the header of docs/operations, and answers what they ask as a test says."""
+"""A server before the pages in tests: it hands out the pages with the header of docs/operations, and answers what they
+ask as a test says."""
 
 import json
 import os
@@ -25,8 +26,9 @@ NOTHING = None  # the connection is closed with no answer
 
 
 class FakeDesk:
-    """`answer(what)` gives a time, a status and a body for the words of a desk's request, or for the method and the path of a patron's; `sent` is what came. A time is in seconds, or an
-    event that is waited for. The library's day is asked at any time, so it has an answer of its own and isn't among what came."""
+    """`answer(what)` gives a time, a status and a body for the words of a desk's request, or for the method and the
+    path of a patron's; `sent` is what came. A time is in seconds, or an event that is waited for. The library's day is
+    asked at any time, so it has an answer of its own and isn't among what came."""
 
     def __init__(self, pages):
         self.day, self.pages, self.sent, self.answer = time.strftime("%Y-%m-%d"), pages, [], lambda what: (0.0, 404, json.dumps({"status": 404}))

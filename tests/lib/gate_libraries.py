@@ -22,7 +22,8 @@ def libraries():
 
 
 def check_of(name, listed, gate, tools):
-    """The words that check a crate in the folder where they run, over the libraries in GATE/crates/*/out; and those of them that aren't there."""
+    """The words that check a crate in the folder where they run, over the libraries in GATE/crates/*/out; and those of
+    them that aren't there."""
     own = lambda it: [lib for lib in listed[it] if lib in listed]
     below, left = [], own(name)
     while left:

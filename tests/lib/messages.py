@@ -1,4 +1,5 @@
-"""What the program says for a person on standard error beside the lines of a run, as the manual page has it: `message` is asked of every run."""
+"""What the program says for a person on standard error beside the lines of a run, as the manual page has it: `message`
+is asked of every run."""
 
 import fcntl
 import os
@@ -97,7 +98,8 @@ def is_desk_keys(word):
     return len(word) > 1 if word.startswith("@") else is_card_key(word)
 
 
-# The words of a run that have a form, by their places after the run's name: what each is called, its form, and what it has to be.
+# The words of a run that have a form, by their places after the run's name: what each is called, its form, and what it
+# has to be.
 KEY = ("KEY", is_key, "1 to 40 ASCII letters, digits and hyphens")
 DESKKEY = ("DESKKEY", is_desk_keys, "8 to 32 ASCII letters and digits, or @ and the path of a file of keys")
 PORT = ("PORT", is_within(65_535), "a number from 1 to 65535, without a leading zero")
@@ -114,7 +116,8 @@ COUNTS = {"file": 2, "import": 2, "report": 3, "audit": 1, "migrate": 1, "serve"
 
 
 def wrong_argument(words):
-    """The first word of a run that isn't in its form: its name and what it has to be. None where all are, or their number is wrong."""
+    """The first word of a run that isn't in its form: its name and what it has to be. None where all are, or their
+    number is wrong."""
     run, given = words[0], words[1:]
     if run not in COUNTS or (len(given) <= COUNTS[run] if run in ("file", "send") else len(given) != COUNTS[run]):
         return None
@@ -226,7 +229,8 @@ def as_it_is(path):
 
 
 def schema_of(path):
-    """The schema of a library, as stock SQLite reads it: the one number of 32 bits that the one row of `meta` has; none where there is no such."""
+    """The schema of a library, as stock SQLite reads it: the one number of 32 bits that the one row of `meta` has;
+    none where there is no such."""
     try:
         with as_it_is(path) as copied, closing(sqlite3.connect(copied)) as conn:
             found = conn.execute("SELECT schema FROM meta").fetchall()
@@ -241,7 +245,8 @@ def is_database(path):
 
 
 def cause(run, path, line, held=None):
-    """What is known of a library's file after a fault of a run; whether another process has it is looked up where it isn't given."""
+    """What is known of a library's file after a fault of a run; whether another process has it is looked up where it
+    isn't given."""
     if is_log_alone(path):
         return LOG_ALONE
     try:
@@ -270,8 +275,8 @@ def is_telling(line):
 
 
 def message(words, out, held=None, made=False, closed=None):
-    """What is said beside the lines of a run of these words; `held` is whether another process had the library's file, `made` whether it makes a new one, and `closed`
-    the number of the fault that closed the desk while it served."""
+    """What is said beside the lines of a run of these words; `held` is whether another process had the library's file,
+    `made` whether it makes a new one, and `closed` the number of the fault that closed the desk while it served."""
     path = keys_of(words) if words else None
     said = "" if path is None else of_keys(path)[0]
     said += f"circ: {words[1]}: {MADE}\n" if made else ""

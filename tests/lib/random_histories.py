@@ -63,7 +63,8 @@ class Clerk:
         return str(self.library.today + datetime.timedelta(self.rng.choice(later)))
 
     def end_of_a_loan(self):
-        """What ends an open loan late: a day soon after the one on which it is due and, from then on, its copy; None where there is none."""
+        """What ends an open loan late: a day soon after the one on which it is due and, from then on, its copy; None
+        where there is none."""
         lent = [loan for loan in self.library.loans.values() if loan["ended"] is None]
         if not lent:
             return None
@@ -146,7 +147,8 @@ def lived(rng, has_questions):
 
 
 def has_rows(words, answer):
-    """Whether a question is shown a row: a copy, sums, a day or a borrower, or a list with more than its head and its end."""
+    """Whether a question is shown a row: a copy, sums, a day or a borrower, or a list with more than its head and its
+    end."""
     heads = {"copies": 1, "queue": 1, "account": 1, "overdue": 1, "shelf": 1}.get(words[0], 0)
     return not answer.startswith("refused") and (words[0] in ("copy", "till", "today", "borrower") or answer.count("\n") > heads)
 

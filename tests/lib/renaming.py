@@ -1,6 +1,8 @@
-"""Proofs by hand under the names of a changed body. A proof names the paths, calls and values of its function, and a changed body has others: a turned condition makes
-`then-not-le` of `then-le`. So that such a proof can still say whether a clause holds, each name that is gone is replaced by the nearest one that the check tells. If
-there is none, as of a call that was dropped, the fact is left to the search: then the clause stands or falls with that fact, which the search names if it isn't proved."""
+"""Proofs by hand under the names of a changed body. A proof names the paths, calls and values of its function, and a
+changed body has others: a turned condition makes `then-not-le` of `then-le`. So that such a proof can still say
+whether a clause holds, each name that is gone is replaced by the nearest one that the check tells. If there is none,
+as of a call that was dropped, the fact is left to the search: then the clause stands or falls with that fact, which
+the search names if it isn't proved."""
 
 import re
 from difflib import SequenceMatcher
@@ -25,8 +27,8 @@ class Missing:
 
 
 def missing_names(text, tried, function):
-    """The names that a check's text misses in the proof by hand of the function that it tried, each with those that the check tells in its place, and where they stand in
-    the proof of the function itself."""
+    """The names that a check's text misses in the proof by hand of the function that it tried, each with those that
+    the check tells in its place, and where they stand in the proof of the function itself."""
     folder, own = (f"proofs/{it.replace('::', '/')}/" for it in (tried, function))
     asked = goals_asked(text)
     found = []
@@ -63,7 +65,8 @@ def nearest(name, others):
 
 
 def is_same(name, other):
-    """Whether two names can be of one thing in two bodies: of what comes by a condition, turned or not, of a loop, or of the same call or value, at another place among several."""
+    """Whether two names can be of one thing in two bodies: of what comes by a condition, turned or not, of a loop, or
+    of the same call or value, at another place among several."""
     one, two = ([part for part in it.split("-") if part != "not" and not part.isdigit()] for it in (name, other))
     return one == two or any(word in one and word in two for word in ("then", "else", "if", "loop"))
 
@@ -74,7 +77,8 @@ def answers(text):
 
 
 def block_of(lines, at):
-    """The first line of the declaration that a line stands in, and the one past its last: empty lines are around it. What was taken out of it leaves a blank on each line."""
+    """The first line of the declaration that a line stands in, and the one past its last: empty lines are around it.
+    What was taken out of it leaves a blank on each line."""
     first = at
     while first > 0 and lines[first - 1]:
         first -= 1
@@ -90,8 +94,8 @@ def replaced(name, other, text):
 
 
 def renamed(texts, missing):
-    """The texts of a proof by hand with other names for those that are missing, or with a search where there is none. An answer of a goal that is asked for no more is
-    left out."""
+    """The texts of a proof by hand with other names for those that are missing, or with a search where there is none.
+    An answer of a goal that is asked for no more is left out."""
     texts = dict(texts)
     for it in missing:
         text = texts[it.path]
@@ -112,7 +116,8 @@ def renamed(texts, missing):
 
 
 def searched(name, block):
-    """A declaration in which a search stands for each fact that a path with this name leads to, and what such a fact is applied to; and `_` for each value."""
+    """A declaration in which a search stands for each fact that a path with this name leads to, and what such a fact
+    is applied to; and `_` for each value."""
     block = without(re.compile(rf"(?<![\w.-])[\w']+(?:\.{NAME}+)*\.{re.escape(name)}(?:\.{NAME}+)*(?!{NAME})"), block)
     # a local name of such a fact has no type of its own
     local = re.compile(rf"\blet (\w+) = {re.escape(SEARCH)} in\b")
@@ -154,8 +159,8 @@ def without(path, block, are_facts=False):
 
 
 def other_of_two(block, start, end):
-    """Where a fact is one of the last two arguments of a lemma that puts two facts together, whose name ends in `then`: where this application begins and ends, and the
-    other fact."""
+    """Where a fact is one of the last two arguments of a lemma that puts two facts together, whose name ends in
+    `then`: where this application begins and ends, and the other fact."""
     last = end_of(block, end)
     first, atoms = start_of(block, start), []
     at = first
@@ -208,7 +213,8 @@ def start_of(block, at):
 
 
 def is_head(block, at):
-    """Whether a term begins at a place that others can be the arguments of: it follows a bracket, a sign or an arrow, and no other term."""
+    """Whether a term begins at a place that others can be the arguments of: it follows a bracket, a sign or an arrow,
+    and no other term."""
     before = block[:at].rstrip()
     return bool(re.search(r"(?:[({\[,;=.∙⨾⨟×]|\bin)$", before))
 

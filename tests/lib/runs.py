@@ -118,7 +118,8 @@ ROOM = 8 * 1024  # KiB; the rows of a whole report of so many loans would take s
 
 
 def kill_at_work(words, seconds):
-    """Starts a run and kills it after a while; it may have ended by then. What it printed, and whether the kill hit it."""
+    """Starts a run and kills it after a while; it may have ended by then. What it printed, and whether the kill hit
+    it."""
     with subprocess.Popen([PROGRAM, *words], stdout=subprocess.PIPE) as run:
         time.sleep(seconds)
         run.kill()
@@ -127,7 +128,8 @@ def kill_at_work(words, seconds):
 
 
 def timed(call):
-    """What a call gives, and the seconds that it took: kills are set by that, so that they hit work on a slow machine too."""
+    """What a call gives, and the seconds that it took: kills are set by that, so that they hit work on a slow machine
+    too."""
     begin = time.perf_counter()
     given = call()
     return given, time.perf_counter() - begin
@@ -177,7 +179,8 @@ def examples(page):
 
 
 def type_page(room, page, least):
-    """Types in a folder what a page of docs/ shows, which is more than so many lines: each is answered as it stands there."""
+    """Types in a folder what a page of docs/ shows, which is more than so many lines: each is answered as it stands
+    there."""
     shown = list(examples(page))
     check(f"how much {page} shows", len(shown) > least, True)
     for (command, *words), answer in shown:
@@ -191,6 +194,7 @@ def type_page(room, page, least):
 
 
 def indexes_by_hand():
-    """The five statements that docs/OPERATIONS.md gives for a library that was made before there were these indexes."""
+    """The five statements that docs/OPERATIONS.md gives for a library that was made before there were these
+    indexes."""
     with open(os.path.join(TOP, "docs", "OPERATIONS.md"), encoding="utf-8") as file:
         return re.findall(r"^    (CREATE INDEX .*);$", file.read(), re.MULTILINE)

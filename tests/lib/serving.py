@@ -37,7 +37,8 @@ PORTS = 20  # so many are tried, since another process may take one before the p
 
 
 def started(words_for, **how):
-    """The program run by the words for a port, the port, and the first line that it printed. Where another process took that port meanwhile, the next one is tried."""
+    """The program run by the words for a port, the port, and the first line that it printed. Where another process
+    took that port meanwhile, the next one is tried."""
     for _ in range(PORTS):
         port = free_port()
         # not buffered here, so that what follows the first line is still there to be read
@@ -52,9 +53,10 @@ def started(words_for, **how):
 
 
 class Serving:
-    """The program serving a file for so many connections; at the end it has printed just these lines and has this status.
-    Its workers serve as many each, so at the end the spare ones ask for nowhere: were they fewer or more, that would fail.
-    No answer tells a key of the desk or a card key. Where there are clerks they are put in a file of keys beside the library, or they are those of the file that is named."""
+    """The program serving a file for so many connections; at the end it has printed just these lines and has this
+    status. Its workers serve as many each, so at the end the spare ones ask for nowhere: were they fewer or more, that
+    would fail. No answer tells a key of the desk or a card key. Where there are clerks they are put in a file of keys
+    beside the library, or they are those of the file that is named."""
 
     def __init__(self, path, connections, after="", status=0, workers=1, clerks=None, **how):
         self.after, self.status, self.how, self.heard = after, status, how, []
@@ -95,7 +97,8 @@ class Serving:
         self.run.wait()
 
     def ask(self, method, target, fields=None, body=None):
-        """The status, the body and the fields of an answer, by http.client. One that is cut within its head is none."""
+        """The status, the body and the fields of an answer, by http.client. One that is cut within its head is
+        none."""
         connection = http.client.HTTPConnection("127.0.0.1", self.port, timeout=60)
         connection.request(method, target, body, fields or {})
         answer = connection.getresponse()
@@ -184,7 +187,8 @@ def body_of_hold(words):
 
 
 def by_patron(patron, card_key, key, words):
-    """The method, the target, the fields and the body by which a patron asks for what these words say: by the route of patrons that is for them, else by the desk's, which the card key doesn't open."""
+    """The method, the target, the fields and the body by which a patron asks for what these words say: by the route of
+    patrons that is for them, else by the desk's, which the card key doesn't open."""
     fields, own = {"Card-Key": card_key, "Request-Key": key}, f"/patrons/{patron}"
     if words[0] == "page":
         return "GET", f"/patrons/{words[1]}", {"Card-Key": card_key}, None

@@ -1,4 +1,5 @@
-"""Tries changed bodies of a crate: many by one check, each alone, and on the whole crate. What tests/tools/edits and tests/tools/mutants have in common."""
+"""Tries changed bodies of a crate: many by one check, each alone, and on the whole crate. What tests/tools/edits and
+tests/tools/mutants have in common."""
 
 import os
 import re
@@ -24,9 +25,11 @@ REFUSED, FOLLOWS, PROVED, BAD, NAMES, UNSURE = "refused", "follows", "proved", "
 
 
 class Change:
-    """A changed body: the lines that it puts in place of a crate's own, by path and number; the function that it changes; the one whose contract refuses it, where
-    it changes what stands in no body; what a round said of its function; and whether its proof by hand was given other names (lib/renaming.py). Where the function
-    can stand twice, and the change is in it alone: its file with its first and its last line, and the number of the second one in a check."""
+    """A changed body: the lines that it puts in place of a crate's own, by path and number; the function that it
+    changes; the one whose contract refuses it, where it changes what stands in no body; what a round said of its
+    function; and whether its proof by hand was given other names (lib/renaming.py). Where the function can stand
+    twice, and the change is in it alone: its file with its first and its last line, and the number of the second one
+    in a check."""
 
     def __init__(self, name):
         self.name, self.function, self.by, self.lines, self.said, self.is_renamed = name, None, None, {}, None, False
@@ -74,7 +77,8 @@ ASKING = "proved where its callers give what it asks"
 
 
 class Check:
-    """What a check said: of each function of the crate its outcome, and which have a goal of their own that isn't proved."""
+    """What a check said: of each function of the crate its outcome, and which have a goal of their own that isn't
+    proved."""
 
     def __init__(self, crate, status, text):
         self.status, self.text = status, text
@@ -99,7 +103,8 @@ class Check:
             self.places.add((place, int(line) - 1))
 
     def own(self, function, is_renamed=False):
-        """What the check says of a function whose body a change is in. Where its proof was given other names, it counts for nothing that a type can't be determined."""
+        """What the check says of a function whose body a change is in. Where its proof was given other names, it
+        counts for nothing that a type can't be determined."""
         told = self.told.get(function, "")
         if told == "proved":
             return PROVED
@@ -113,12 +118,14 @@ class Check:
         return FOLLOWS if "it calls `" in told else UNSURE
 
     def has_open(self, function, said):
-        """Whether a goal of the function is open that was never answered by hand: one of a clause of which no answer is missing for its name alone."""
+        """Whether a goal of the function is open that was never answered by hand: one of a clause of which no answer
+        is missing for its name alone."""
         missing = {clause_of(name) for it in said for name in re.findall(r"has no `(\S+?)`", it)}
         return any(clause_of(goal) not in missing for goal in self.open.get(function, []))
 
     def is_of_lemma(self, said):
-        """Whether an error says that a proof waits for a lemma that is rejected for what it says, as one of a text that a change is in."""
+        """Whether an error says that a proof waits for a lemma that is rejected for what it says, as one of a text
+        that a change is in."""
         found = re.search(r"depends? on `([^`]+)`, which was not admitted", said)
         name, seen = found and found[1], set()
         while name in self.waits and name not in seen:
@@ -171,7 +178,8 @@ class Crate:
         return check_of(*self.found)[1]
 
     def check(self, changes, only=(), kept=None, prefix="edits-"):
-        """Checks a copy of the crate with these changes, and of it only these functions, if there are any; over what earlier checks kept, if that is given."""
+        """Checks a copy of the crate with these changes, and of it only these functions, if there are any; over what
+        earlier checks kept, if that is given."""
         await_memory(self.room)
         with tempfile.TemporaryDirectory(prefix=prefix) as room:
             for part in PARTS:
@@ -196,7 +204,8 @@ class Crate:
 
 
 class Trial:
-    """The tries of one crate's changes: what they came to, and what failed. Whoever tries says what each outcome means, by `settle`."""
+    """The tries of one crate's changes: what they came to, and what failed. Whoever tries says what each outcome
+    means, by `settle`."""
 
     prefix = "edits-"
 
@@ -225,7 +234,8 @@ class Trial:
         return self.crate.check(changes, only, self.room, self.prefix)
 
     def rounds(self, waiting, alone):
-        """Tries changes that name their functions, round by round, and adds to alone those that are to be tried alone."""
+        """Tries changes that name their functions, round by round, and adds to alone those that are to be tried
+        alone."""
         for _ in range(ROUNDS):
             later = []
             while waiting:
@@ -273,7 +283,8 @@ class Trial:
         self.settle(change, NAMES, "in its own function")
 
     def alone(self, change, by):
-        """Tries a change alone: what the function `by` says of it, if one is given and it refuses it, and else what the whole crate says; and how that was found."""
+        """Tries a change alone: what the function `by` says of it, if one is given and it refuses it, and else what
+        the whole crate says; and how that was found."""
         check = self.check([change], [by]) if by else None
         if check and check.ended and check.own(by) == REFUSED:
             return REFUSED, f"alone, by {by}"
@@ -281,8 +292,8 @@ class Trial:
 
 
 def one_round(changes, can_double=True):
-    """Splits changes into those of one round, and the rest. What can stand twice does, if that is wanted. Of the others a round has at most one a function, and none on
-    another's lines."""
+    """Splits changes into those of one round, and the rest. What can stand twice does, if that is wanted. Of the
+    others a round has at most one a function, and none on another's lines."""
     taken, left, functions, lines = [], [], set(), set()
     for change in changes:
         change.number = len(taken) + 1 if can_double and change.twice else None
@@ -316,7 +327,8 @@ def places():
 
 
 def in_turn(trials, places, is_ready, work):
-    """Has each trial worked at once it is ready and memory is free, in their order where several are ready: side by side as many as there are places just then."""
+    """Has each trial worked at once it is ready and memory is free, in their order where several are ready: side by
+    side as many as there are places just then."""
     left, running = list(trials), set()
     with ThreadPoolExecutor(len(left) or 1) as pool:
         while left or running:

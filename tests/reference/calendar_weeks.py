@@ -1,4 +1,5 @@
-"""Open days counted day by day, and how many looks at single closed days a count by weeks takes without its searches."""
+"""Open days counted day by day, and how many looks at single closed days a count by weeks takes without its
+searches."""
 
 import itertools
 

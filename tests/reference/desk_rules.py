@@ -1,4 +1,5 @@
-"""The rules of docs/RULES.md once more, in plain Python: what each request of the desk is answered, and the rows after it.
+"""The rules of docs/RULES.md once more, in plain Python: what each request of the desk is answered, and the rows after
+it.
 
 It was written from the rules and shares nothing with the program, so that the two can be compared. It leaves out what
 patrons are refused because it isn't theirs (14, 15 and 81), and numbers that are used up (70).
@@ -464,7 +465,8 @@ class Library:
         return f"shelf {row['home']}" if row["condition"] == "present" else row["condition"], None
 
     def listed(self, head, rows, after):
-        """A part of a list, whose rows stand by their numbers: those above a number, the least first and not too many, and whether others follow."""
+        """A part of a list, whose rows stand by their numbers: those above a number, the least first and not too many,
+        and whether others follow."""
         above = sorted(number for number in rows if number > after)
         shown = above[:MOST_ROWS]
         return "\n".join([*head, *[rows[number] for number in shown], "end" if shown == above else f"after {shown[-1]}"])
@@ -537,7 +539,8 @@ class Library:
         return f"{self.patron_line(patron)}\nkind {self.patrons[patron]['kind']}"
 
     def searched(self, names, shown, after, text):
-        """A part of a search over rows with names: of those above a number, the least first, it looks at one after another until it has found or looked at as many as it may."""
+        """A part of a search over rows with names: of those above a number, the least first, it looks at one after
+        another until it has found or looked at as many as it may."""
         above, lines = sorted(number for number in names if number > after), []
         for at, number in enumerate(above, 1):
             if finds(text, names[number]):

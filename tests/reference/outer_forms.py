@@ -1,7 +1,8 @@
-"""The outer forms of docs/RULES.md once more, in plain Python: words, JSON bodies, web requests, files of keys and copies files, read from their bytes.
+"""The outer forms of docs/RULES.md once more, in plain Python: words, JSON bodies, web requests, files of keys and
+copies files, read from their bytes.
 
-It was written from the rules and shares nothing with the program, so that the two can be compared. What an accepted request does is told
-by `desk_rules`.
+It was written from the rules and shares nothing with the program, so that the two can be compared. What an accepted
+request does is told by `desk_rules`.
 """
 
 import datetime
@@ -355,7 +356,8 @@ def words_of(route, numbers, body):
 
 
 def read_request(bytes_):
-    """What a request asks for: the patron of its route (None for the desk's), the key that it shows, its own key and the words."""
+    """What a request asks for: the patron of its route (None for the desk's), the key that it shows, its own key and
+    the words."""
     head = Head(bytes_)
     body = head.body()
     route, method, numbers = route_of(head.target)
@@ -389,7 +391,8 @@ def told(library, clerks, bytes_):
 
 
 def said(library, clerks, patron, shown, key, words):
-    """The line that answers a request: first the caller's key is looked at and whether the caller may send it, then the request's own key, and then whose loan or hold it is."""
+    """The line that answers a request: first the caller's key is looked at and whether the caller may send it, then
+    the request's own key, and then whose loan or hold it is."""
     if patron is None:
         return said_to_clerk(library, clerks, shown, key, words)
     if patron not in library.patrons or library.patrons[patron]["card_key"] != shown:
@@ -404,8 +407,9 @@ def said(library, clerks, patron, shown, key, words):
 
 
 def said_to_clerk(library, clerks, shown, key, words):
-    """The line that answers a request of the desk. The clerks are those of a file of keys, each a name, a role and a key, and a request is kept under the name and its own key; or they are one key of
-    nobody's, which may send everything, and nothing is put before the request's own key."""
+    """The line that answers a request of the desk. The clerks are those of a file of keys, each a name, a role and a
+    key, and a request is kept under the name and its own key; or they are one key of nobody's, which may send
+    everything, and nothing is put before the request's own key."""
     if isinstance(clerks, str):
         return library.handle(key, words) if shown == clerks else "refused 81"
     for name, role, own in clerks:
@@ -430,8 +434,8 @@ CLERK = re.compile(b"([A-Za-z0-9]{1,16}) (desk|lending) ([A-Za-z0-9]{8,32})")
 
 
 def read_keys(bytes_):
-    """The clerks of a file of keys, each a name, a role and a key; and the number of its first line that isn't as it has to be, None where all are. A last line without a newline isn't, and an empty file
-    has such a line alone."""
+    """The clerks of a file of keys, each a name, a role and a key; and the number of its first line that isn't as it
+    has to be, None where all are. A last line without a newline isn't, and an empty file has such a line alone."""
     clerks = []
     *lines, rest = bytes_.split(b"\n")
     for number, line in enumerate(lines, 1):

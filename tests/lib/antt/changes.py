@@ -1,4 +1,5 @@
-"""Small changes of definitions, each of which keeps every type: what a slip in writing a definition could have made of it."""
+"""Small changes of definitions, each of which keeps every type: what a slip in writing a definition could have made of
+it."""
 
 import re
 from collections import namedtuple
@@ -7,7 +8,8 @@ from lib.antt.program import NAT, Constructor, Defined, Word
 from lib.antt.reading import Clause, bare, children
 from lib.antt.typing import Typing, arguments_of, is_known
 
-# A change: the definition, the kind, which of its clauses it is made in (None leaves that clause out), and what stands where.
+# A change: the definition, the kind, which of its clauses it is made in (None leaves that clause out), and what stands
+# where.
 Edit = namedtuple("Edit", "kind clause edits")
 
 # The kinds that keep what a definition gives to itself.

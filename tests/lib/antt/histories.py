@@ -1,4 +1,5 @@
-"""Random histories over the definitions, beside the rules in plain Python: what each request is answered, the tables after them all, pages and reports."""
+"""Random histories over the definitions, beside the rules in plain Python: what each request is answered, the tables
+after them all, pages and reports."""
 
 import random
 
@@ -20,7 +21,8 @@ use Rattle.model.proofs.Rows.{by_desk, closed_in, ground}
 """
 REQUESTS, PICTURE = "Rattle.model.specs.Requests", Defined("Rattle.model.specs.Picture", "picture")
 REPORTS = {name: Defined("Rattle.model.specs.Reports", name) for name in ("overdue", "shelf", "till")}
-# The columns of each table, in the order in which the rules give them; the first are its keys. A column that has a sort of its own, or may be absent, is named with it.
+# The columns of each table, in the order in which the rules give them; the first are its keys. A column that has a
+# sort of its own, or may be absent, is named with it.
 TABLES = {
     "kinds": ("kinds", ("kind",), ("loans", "holds", "debt")),
     "rules3": ("rules", ("kind", "copy_kind"), ("period", "renewals", "rate", "cap", "grace")),

@@ -1,4 +1,5 @@
-"""Says of changed definitions whether a worked row or a random history notices them: each is tried in a process of its own, which begins with what is known of the others."""
+"""Says of changed definitions whether a worked row or a random history notices them: each is tried in a process of its
+own, which begins with what is known of the others."""
 
 import gc
 import json

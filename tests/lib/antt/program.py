@@ -230,7 +230,8 @@ class Program:
     # ---- types
 
     def type_of_node(self, module, node):
-        """The type that a node writes: a tuple; one with arrows is ("fn", the types of what it takes, what it gives)."""
+        """The type that a node writes: a tuple; one with arrows is ("fn", the types of what it takes, what it
+        gives)."""
         node = bare(node)
         if node.sort == "arrow":
             taken, given = [], node
@@ -286,7 +287,8 @@ class Program:
         return kind[1] if kind[0] == "fn" else ()
 
     def record_fields(self, module, name):
-        """The fields of a record that is known under this name in any file read so far, or in the code that a file names."""
+        """The fields of a record that is known under this name in any file read so far, or in the code that a file
+        names."""
         for it in [module, *self.modules.values()]:
             if name in it.records:
                 return {own: self.type_of_text(it, re.sub(r"\s+", " ", text)) for own, text in it.records[name][1]}

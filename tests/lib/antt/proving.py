@@ -8,7 +8,8 @@ import tempfile
 
 from lib.gate_libraries import PARTS, check_of, kit, libraries
 
-# What a check with a change comes to: a law isn't proved, all is proved, the change has no type, or a worked row differs that didn't differ in Python.
+# What a check with a change comes to: a law isn't proved, all is proved, the change has no type, or a worked row
+# differs that didn't differ in Python.
 LAW, PROVED, ILL_TYPED, ROW, UNSURE = "law", "proved", "ill-typed", "a row", "unsure"
 
 

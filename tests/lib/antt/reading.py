@@ -1,20 +1,22 @@
 """Reads files of definitions: those parts of the language that the definitions of this repository are written in.
 
-A file is cut into items by its indentation: what a name's type is, and the clauses that say what it gives. An item is read into a tree, of which each node knows where it stands in
-the file, so that a change of a definition is a change of its text.
+A file is cut into items by its indentation: what a name's type is, and the clauses that say what it gives. An item is
+read into a tree, of which each node knows where it stands in the file, so that a change of a definition is a change of
+its text.
 """
 
 import re
 from collections import namedtuple
 
-# A node: its sort, its parts, and where it begins and ends in the file.
-#   name TEXT, number N, string TEXT, app FUNCTION ARGUMENTS, op SIGN LEFT RIGHT, if CONDITION THEN ELSE, elim VALUE CASES, lam NAMES BODY, record BASE FIELDS, tuple PARTS,
-#   field VALUE NAME, let NAME VALUE BODY, arrow FROM TO; a case is (pattern, body), a field (name, value).
+# A node: its sort, its parts, and where it begins and ends in the file. name TEXT, number N, string TEXT, app FUNCTION
+# ARGUMENTS, op SIGN LEFT RIGHT, if CONDITION THEN ELSE, elim VALUE CASES, lam NAMES BODY, record BASE FIELDS, tuple
+# PARTS, field VALUE NAME, let NAME VALUE BODY, arrow FROM TO; a case is (pattern, body), a field (name, value).
 Node = namedtuple("Node", "sort parts at end")
 
 Token = namedtuple("Token", "text at end")
 
-# One item of a file: its sort (use, type, clause, data, record), where it begins and ends, the parameters of the inner modules that it stands in, and where each of these begins.
+# One item of a file: its sort (use, type, clause, data, record), where it begins and ends, the parameters of the inner
+# modules that it stands in, and where each of these begins.
 Item = namedtuple("Item", "sort at end parameters inside")
 
 # A clause: its patterns, and the node of what it gives.

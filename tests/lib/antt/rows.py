@@ -20,7 +20,8 @@ class Row:
             self.from_record(program, module, node)
 
     def from_record(self, program, module, node):
-        """`Gives ground requests texts`: the equation that the record has as its field, with these for its parameters."""
+        """`Gives ground requests texts`: the equation that the record has as its field, with these for its
+        parameters."""
         owner, name = module.scope[node.parts[0].parts[0]] if node.parts[0].parts[0] in module.scope else (module.name, node.parts[0].parts[0])
         self.owner = program.module(owner)
         named, fields = self.owner.records[name]

@@ -265,7 +265,8 @@ class Running:
             self.users.setdefault(used, set()).add(key)
 
     def takes_functions(self, key):
-        """Whether a definition is given functions, by themselves or in a record: then what it gave may hang on one that it doesn't name."""
+        """Whether a definition is given functions, by themselves or in a record: then what it gave may hang on one
+        that it doesn't name."""
         kind = self.program.type_of(key)
         module = self.program.definition(key).module
         return kind[0] == "fn" and any(self.holds_function(module, it) for it in kind[1])
@@ -277,7 +278,8 @@ class Running:
         return any(self.holds_function(module, it) for it in (fields or {}).values()) or any(self.holds_function(module, it) for it in kind[1:])
 
     def change(self, key, clauses):
-        """Gives a definition other clauses; it, all that lead to it and all that are given functions forget what they gave."""
+        """Gives a definition other clauses; it, all that lead to it and all that are given functions forget what they
+        gave."""
         name = self.names[key]
         exec(compile(Making(self, self.program.definition(key)).source(name, clauses), f"<{key.name}>", "exec"), self.space)
         if self.given is None:

@@ -1,7 +1,8 @@
 """The values that definitions give, and the words of the standard library that they use.
 
-A number is an int, a truth a bool. Every other value stands once: two that are equal are one object, so that they are compared at once and what was worked out of
-one can be looked up. A function is known by its name and the values that it has already; one that a definition writes by λ is known as itself alone.
+A number is an int, a truth a bool. Every other value stands once: two that are equal are one object, so that they are
+compared at once and what was worked out of one can be looked up. A function is known by its name and the values that
+it has already; one that a definition writes by λ is known as itself alone.
 """
 
 from functools import lru_cache
