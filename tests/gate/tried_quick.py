@@ -15,7 +15,7 @@ from importlib.util import module_from_spec, spec_from_loader
 from room import TOP
 from lib.checking import check, none, part, run_script
 
-ALWAYS = ["words", "changing", "contracts", "documents"]
+ALWAYS = ["words", "changing", "contracts", "linted", "documents"]
 # a file, and what it needs beside what is always run
 NEEDS = [
     (["docs/PROOFS.md"], []),
@@ -138,14 +138,14 @@ def runs(place, tool):
     repository.put("docs/PROOFS.md", "# Proofs of it\n")
     status, lines, rt = repository.runs("quick")
     begin = ["quick: 1 files: docs/PROOFS.md", *passed(*ALWAYS)]
-    check("a changed text", (status, lines[:5], rt), (0, begin, []))
+    check("a changed text", (status, lines[:6], rt), (0, begin, []))
     left = [it for it in tool.scripts() if it not in ALWAYS] + ["calendar_weeks", "refused", "definitions"]
     end = [
         f"quick: left out: {', '.join(left)}",
         "quick: left out are all wrong bodies, and the proofs of all crates but: none",
-        "quick: 4 passed, 0 failed, 0 not ended; ./test runs everything",
+        "quick: 5 passed, 0 failed, 0 not ended; ./test runs everything",
     ]
-    check("what it leaves out", lines[5:], end)
+    check("what it leaves out", lines[6:], end)
     repository.commits()
     check("the same in the last commit", repository.runs("quick"), (status, lines, rt))
     repository.put("crates/store/src/lib.rt", "// changed\n")
