@@ -1,11 +1,13 @@
 #!/usr/bin/env python3
-"""Runs `tools/backup` on libraries, sound, damaged and absent ones, with a `systemctl` of the test's own on the path, and restores what it made.
+"""Runs `tools/backup` on libraries, sound, damaged and absent ones, with a `systemctl` of the test's own on the path,
+and restores what it made.
 
     tests/gate/backup_script.py
 
 What a backup has to hold is read from the library before it, by stock SQLite in a copy of both files.
 """
 
+import errno
 import fcntl
 import os
 import re
@@ -25,13 +27,16 @@ from lib.runs import GROUND, PROGRAM, answers, digest, month, say, the_rows_are,
 from lib.serving import Serving, a_library
 from reference.desk_rules import Library
 
-BACKUP, CREATE, RESTORE = (os.path.join(TOP, "tools", it) for it in ("backup", "create", "restore"))
+BACKUP, CREATE, RESTORE, EXPORT, COPIES = (
+    os.path.join(TOP, "tools", it) for it in ("backup", "create", "restore", "export", "copies")
+)
 USAGE = "usage: backup [--service NAME | --no-service] [--no-audit] [--fewer] LIBRARY FOLDER KEEP\n"
 STAMP = r"\d{4}-\d\d-\d\dT\d\d-\d\d-\d\dZ"
 NOBODY = 65534
 AS_NOBODY = {"user": NOBODY, "group": NOBODY, "extra_groups": []}
 
-# Notes what it is told, and ends with the status that a file of the verb's name has. Where the limit of starts is reached it starts nothing, until that is reset.
+# Notes what it is told, and ends with the status that a file of the verb's name has. Where the limit of starts is
+# reached it starts nothing, until that is reset.
 SYSTEMCTL = """\
 #!/bin/sh
 echo "$*" >>"{folder}/calls"
@@ -43,7 +48,8 @@ echo "$*" >>"{folder}/calls"
 
 
 class Machine:
-    """A folder of its own with a library, a place for backups, and the programs on the path: `circ`, and a `systemctl` that notes what it is told."""
+    """A folder of its own with a library, a place for backups, and the programs on the path: `circ`, and a `systemctl`
+    that notes what it is told."""
 
     def __init__(self, folder, name):
         self.folder = os.path.join(folder, name)
@@ -113,7 +119,8 @@ class Machine:
         return sorted(os.listdir(self.backups)) if os.path.isdir(self.backups) else None
 
     def bad(self, what, wanted, *words, status=3, **how):
-        """A backup that has to fail: what it says, and the older backups stay as they were, with nothing beside them."""
+        """A backup that has to fail: what it says, and the older backups stay as they were, with nothing beside
+        them."""
         before = [(it, digest(f"{self.backups}/{it}/town.db")) for it in self.there() or []]
         check(what, self.backed_up(*words, **how), ("", said(*wanted), status))
         check(f"the older backups after {what}", [(it, digest(f"{self.backups}/{it}/town.db")) for it in self.there() or []], before)
@@ -130,7 +137,8 @@ RESTORING = ["is-active circ-backup.service", "is-active circ.service", "stop ci
 
 
 def restored(machine, place, library):
-    """Restores a backup by the line of docs/OPERATIONS.md, with the machine's own places, and looks at its rows. What was there is put aside."""
+    """Restores a backup by the line of docs/OPERATIONS.md, with the machine's own places, and looks at its rows. What
+    was there is put aside."""
     with open(os.path.join(TOP, "docs", "OPERATIONS.md"), encoding="utf-8") as file:
         block = re.search(r"^To restore.*\n\n((?:    .*\n)+)", file.read(), re.M)[1]
     check("the line", bool(re.fullmatch(r"    circ-restore /var/backups/circ/town\.db-" + STAMP + r"\n", block)), True)
@@ -146,8 +154,8 @@ def restored(machine, place, library):
 
 
 def of_a_desk(folder):
-    """A library that is killed while it serves is in its two files: the backup is the library of what was answered, and it goes on from there. While the program has it open no
-    backup is made."""
+    """A library that is killed while it serves is in its two files: the backup is the library of what was answered,
+    and it goes on from there. While the program has it open no backup is made."""
     machine, library, requests = Machine(folder, "desk"), Library(), month()
     os.remove(machine.path)
     half = 40
@@ -228,7 +236,8 @@ def runs_as_nobody():
 
 
 def failing(folder):
-    """What is missing, damaged or can't be written is told, the status isn't 0, the older backups stay, and the service is started again where it was stopped."""
+    """What is missing, damaged or can't be written is told, the status isn't 0, the older backups stay, and the
+    service is started again where it was stopped."""
     machine = Machine(folder, "failing")
     machine.good("one before")
     words = (machine.path, machine.backups, "1")
@@ -270,7 +279,8 @@ REMOVED = "the copy was removed, and the older backups stay"
 
 
 def fewer(folder):
-    """A library that has fewer copies or patrons than the newest backup takes the place of none, but where that is wanted. GROUND has four copies and three patrons."""
+    """A library that has fewer copies or patrons than the newest backup takes the place of none, but where that is
+    wanted. GROUND has four copies and three patrons."""
     machine = Machine(folder, "fewer")
     machine.good("one of before")
     say(machine.path, [("f1", ["withdraw", "30"], "ok")])
@@ -338,7 +348,10 @@ def created(folder):
     os.remove(path)
     for day in ("2026-3-2", "2026-02-30", "tomorrow", "1"):
         check(f"the day {day}", create(path, day), ("", tells(f"DAY is no day such as 2026-03-02: {day}"), 4))
-    check("a day out of range", create(path, "1999-12-31"), ("", tells("no library was made with the day 1999-12-31: words not understood"), 3))
+    out, err, status = create(path, "1999-12-31")
+    told = ("words not understood\n", "from 2000-01-01", tells("no library was made with the day 1999-12-31"))
+    check(f"a day out of range, and why: {err}", (out, [it in err for it in told], status), ("", [True] * 3, 3))
+    check("that its file was new isn't told", "there was no library" in err, False)
     check("no folder", create(none), ("", tells(f"there is no folder {machine.folder}/none"), 3))
     usage = "usage: create LIBRARY [DAY]\n       create --check LIBRARY\n"
     for words in ((), ("--check",), ("--check", path, "2026-03-02"), ("--other",), (path, "2026-03-02", "x"), ("",)):
@@ -375,13 +388,15 @@ def asides(machine):
 
 
 def state_of(machine):
-    """Whatever a restoration could change: the library, its log and what is put aside; and that nothing else is left."""
+    """Whatever a restoration could change: the library, its log and what is put aside; and that nothing else is
+    left."""
     left = [it for it in os.listdir(machine.folder) if it.startswith(".")]
     return digest(machine.path), digest(machine.path + "-wal"), asides(machine), left
 
 
 def restorations(folder):
-    """To the same machine twice and back again, with the log of an older day there; to a new machine, whose service has another number; and where the service was stopped or failed."""
+    """To the same machine twice and back again, with the log of an older day there; to a new machine, whose service
+    has another number; and where the service was stopped or failed."""
     machine = Machine(folder, "restorations")
     first = machine.good("the first")
     say(machine.path, [("r1", ["check-out", "1", "10", "1"], "loan 1 due 2026-03-09")])
@@ -438,7 +453,8 @@ def restorations(folder):
 
 
 def not_restored(folder):
-    """What isn't sound, or can't be put in place, changes nothing: the library is as it was, nothing is put aside, and the service runs as before."""
+    """What isn't sound, or can't be put in place, changes nothing: the library is as it was, nothing is put aside, and
+    the service runs as before."""
     machine = Machine(folder, "not restored")
     good = machine.good("a good one")
     say(machine.path, [("n1", ["check-out", "1", "10", "1"], "loan 1 due 2026-03-09")])
@@ -606,9 +622,36 @@ def a_full_disk(folder):
         check("one that has none", (out, status, err.startswith(f"backup: {machine.path} can't be copied to "), err.endswith(": No space left on device\n")), ("", 3, True, True))
         check("the service runs again", machine.calls(), ORDER[:4])
         check("the older one stays", [whole(f"{machine.backups}/{it}/town.db") for it in machine.there()], [whole(machine.path)])
+        full_for_others(machine)
     finally:
         subprocess.run(["umount", machine.backups], check=True)
     return True
+
+
+def full_for_others(machine):
+    """What makes a library, restores one, or writes what one has or a spreadsheet's list, tells it in words, and leaves
+    nothing."""
+    full, backup = machine.backups, os.path.join(machine.backups, machine.there()[0])
+    try:
+        with open(f"{full}/fill", "wb", buffering=0) as file:
+            while True:
+                file.write(bytes(4096))
+    except OSError as fault:
+        check("the disk is full", fault.errno, errno.ENOSPC)
+    copies = os.path.join(machine.folder, "list.csv")
+    with open(copies, "w", encoding="utf-8") as file:
+        file.write("copy,title,text,kind,home,price\n" + "".join(f"{it},{it},Maps,1,1,5.00\n" for it in range(1, 2000)))
+    before = machine.there()
+    for what, words in (
+        ("a new library", (CREATE, f"{full}/new.db", "2026-03-02")),
+        ("a restoration", (RESTORE, "--no-service", "--library", f"{full}/restored.db", backup)),
+        ("an export", (EXPORT, machine.path, f"{full}/out")),
+        ("a copies file", (COPIES, copies, f"{full}/made.csv")),
+    ):
+        told = machine.runs(*words)
+        is_said = "the disk is full" in told.stderr or "No space left on device" in told.stderr
+        check(f"{what}: {told.stderr}", (told.stdout, told.returncode, is_said), ("", 3, True))
+        check(f"what {what} leaves", machine.there(), before)
 
 
 def wrong_words(folder):

@@ -166,6 +166,9 @@ def refused_days(prefix, place):
     check("another desk began another", answering(place, prefix, yesterday, refused, later), ((1, says.format(refused)), asked))
     check("it is refused for nothing", answering(place, prefix, yesterday, refused, yesterday), ((1, says.format(refused)), asked))
     check("a closed desk", answering(place, prefix, yesterday, '{"fault":92}'), ((3, says.format('{"fault":92}')), asked[:2]))
+    means = """'; echo 'circ: the disk is full' >&2; true '"""
+    meant = says.format('{"fault":91}\ncirc: the disk is full')
+    check("a full disk, with what it means", answering(place, prefix, yesterday, '{"fault":91}' + means), ((3, meant), asked[:2]))
     check("no answer to it", answering(place, prefix, yesterday), ((3, says.format("no answer")), asked[:2]))
     check("a desk that tells no day", answering(place, prefix, '{"fault":92}'), ((3, "circ-day: the desk on port 8080 doesn't tell its day: {\"fault\":92}\n"), asked[:1]))
 
