@@ -10,6 +10,7 @@ import { saidNo } from "./saying.js";
 import { backToLine, focusScan, listenForScans } from "./scan_line.js";
 import { MOST_NOTES, clearNotes, it, note, print, putSlipsAway, showHead, showMode, showOpen, showSlip, showVisit, showWaiting, showWanted, tell, tellQuietly } from "./screen.js";
 import { isSoundOn, switchSound } from "./sound.js";
+import { listenForTabs, showTab } from "./tabs.js";
 import { TEXTS, fillIn, say } from "./texts.js";
 import { listenForWords } from "./word_line.js";
 import { Work } from "./work.js";
@@ -157,6 +158,7 @@ it("sign-out").addEventListener("click", () => {
   clearNotes();
   for (const form of document.forms) form.reset();
   showMode("check-out");
+  showTab("circulation");
   tell(closing(unknown, unsent), unknown.length + unsent.length > 0);
   it("desk-key").focus();
 });
@@ -164,5 +166,6 @@ it("sign-out").addEventListener("click", () => {
 fillIn();
 listenForScans(() => work);
 listenForWords(() => work);
+listenForTabs();
 listenForLists(() => ({ branch: desk().branch, day: day.now, take: (words) => work.words(words), ask: (words, unknown) => askBy(desk().key, leaving.signal, words, newKey(), unknown) }));
 if (desk()) open();

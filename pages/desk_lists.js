@@ -11,15 +11,19 @@ import { csvOf, fileNameOf, sorted, sortedNext } from "./sheet.js";
 import { expiredHold, headOf, tableOf, wordsOfQuestion } from "./tables.js";
 import { TEXTS, branchName, say } from "./texts.js";
 
-// what is shown, what was asked last, and how many lists were asked for: the answer to one that was asked for before the last comes too late
-let shown = null;
-let last = null;
-let asked = 0;
-let tillDay = "";
-// how the rows that are shown are sorted; null where they are as they came
-let sorting = null;
-// the holds of the list that were unshelved by a button
-let unshelved = new Set();
+// What is shown, what was asked last, and how many lists were asked for: the answer to one that was asked for before the last comes too late. How the rows are sorted, null where they
+// are as they came; and the holds of the list that were unshelved by a button.
+const view = { shown: null, last: null, asked: 0, tillDay: "", sorting: null, unshelved: new Set() };
+
+// the questions by the panel that shows what they are answered
+const QUESTIONS = {
+  lists: ["pulls", "shelf", "transits", "overdue", "debts", "missing-copies", "till"],
+  patrons: ["find-patrons", "account"],
+  catalogue: ["find-titles", "copy", "loans", "copies", "queue"],
+  settings: ["branches", "closed-days", "kinds", "rules"],
+};
+
+export const panelOf = (question) => Object.keys(QUESTIONS).find((panel) => QUESTIONS[panel].includes(question));
 
 function tell(text, isWrong = false) {
   it("list-told").textContent = text;
@@ -47,12 +51,12 @@ function rowOf(cells, hold) {
 
 // Has the desk unshelve holds, each once: a button that was pressed is of no further use.
 function unshelve(holds) {
-  const left = holds.filter((hold) => !unshelved.has(hold));
+  const left = holds.filter((hold) => !view.unshelved.has(hold));
   for (const hold of left) {
-    unshelved.add(hold);
-    shown.take(["unshelve", String(hold)]);
+    view.unshelved.add(hold);
+    view.shown.take(["unshelve", String(hold)]);
   }
-  show(shown);
+  show(view.shown);
 }
 
 // The heads of the columns, by each of which the rows are sorted.
@@ -61,12 +65,12 @@ function headsOf(columns) {
   row.append(...columns.map((text, column) => {
     const [cell, button] = [document.createElement("th"), document.createElement("button")];
     cell.scope = "col";
-    if (sorting?.column === column) cell.setAttribute("aria-sort", sorting.isDown ? "descending" : "ascending");
+    if (view.sorting?.column === column) cell.setAttribute("aria-sort", view.sorting.isDown ? "descending" : "ascending");
     button.type = "button";
     button.textContent = text;
     button.addEventListener("click", () => {
-      sorting = sortedNext(sorting, column);
-      show(shown);
+      view.sorting = sortedNext(view.sorting, column);
+      show(view.shown);
       it("list-columns").querySelectorAll("button")[column].focus();
     });
     cell.append(button);
@@ -78,13 +82,13 @@ function headsOf(columns) {
 // The table that is shown, its rows as they are sorted; and of each row the hold that is past its day, where there is one that is still to be unshelved.
 function tableShown({ question, list, day }) {
   const table = tableOf(question, list);
-  const expired = new Map(table.rows.map((cells, at) => [cells, expiredHold(question, list.rows[at], day)]).filter(([, hold]) => hold !== null && !unshelved.has(hold)));
-  return { ...table, rows: sorting === null ? table.rows : sorted(table.rows, sorting), expired };
+  const expired = new Map(table.rows.map((cells, at) => [cells, expiredHold(question, list.rows[at], day)]).filter(([, hold]) => hold !== null && !view.unshelved.has(hold)));
+  return { ...table, rows: view.sorting === null ? table.rows : sorted(table.rows, view.sorting), expired };
 }
 
 function save() {
-  const address = URL.createObjectURL(new Blob([csvOf(tableShown(shown))], { type: "text/csv;charset=utf-8" }));
-  Object.assign(document.createElement("a"), { href: address, download: fileNameOf(shown.question, shown.day) }).click();
+  const address = URL.createObjectURL(new Blob([csvOf(tableShown(view.shown))], { type: "text/csv;charset=utf-8" }));
+  Object.assign(document.createElement("a"), { href: address, download: fileNameOf(view.shown.question, view.shown.day) }).click();
   URL.revokeObjectURL(address);
 }
 
@@ -111,59 +115,62 @@ function read(question, about, text) {
   return list && { ...list, head: list.head ?? headOf(question, about) };
 }
 
-// Asks, and shows the answer below the rows that are there already.
+// The panel of what is asked has its answer, and nothing that was asked in another one.
+function moveTo(panel) {
+  it(panel).append(it("sheet"));
+  if (panelOf(view.shown?.question) !== panel) it("list-paper").hidden = true;
+}
+
+// Asks, and shows the answer in the panel of the question, below the rows that are there already.
 async function ask(desk, question, about, after, before) {
-  asked += 1;
-  last = question;
-  if (before.length === 0) [sorting, unshelved] = [null, new Set()];
-  const mine = asked;
+  view.asked += 1;
+  view.last = question;
+  if (before.length === 0) Object.assign(view, { sorting: null, unshelved: new Set() });
+  moveTo(panelOf(question));
+  const mine = view.asked;
   tell(TEXTS.sending);
   const words = wordsOfQuestion(question, about, after);
-  const answer = await desk.ask(words, () => mine === asked && tell(TEXTS.unknownOpening, true));
-  if (!answer || mine !== asked) return;
+  const answer = await desk.ask(words, () => mine === view.asked && tell(TEXTS.unknownOpening, true));
+  if (!answer || mine !== view.asked) return;
   const list = answer.reply && read(question, about, answer.text);
   if (!list) return tell(saidNo(answer.reply ? { strange: 200 } : answer, words), true);
-  shown = { question, about, branch: desk.branch, day: desk.day, take: desk.take, list: { ...list, rows: [...before, ...list.rows] } };
-  show(shown);
+  view.shown = { question, about, branch: desk.branch, day: desk.day, take: desk.take, list: { ...list, rows: [...before, ...list.rows] } };
+  show(view.shown);
 }
 
-// What is looked up is a number, with its prefix or without.
-function lookUp(desk, question) {
-  const kind = { copy: "copy", loans: "copy", copies: "title", queue: "title", account: "patron" }[question];
-  const text = it("looked").value.trim();
-  const { of, number } = cut(text);
-  if (of !== null && of !== kind) return tell(say(TEXTS.otherScanned, { is: nameOf(of), wanted: nameOf(kind) }), true);
-  if (!isNumber(number)) return tell(say(TEXTS.wrongForm, { what: TEXTS.numberForm }), true);
-  return ask(desk, question, number, 0, []);
+// What is wrong with what a question is about, which is a text, or a number with its prefix or without.
+function problemOf(question, text, { of, number }) {
+  if (question.startsWith("find-")) return text === "" ? say(TEXTS.wrongForm, { what: TEXTS.soughtForm }) : null;
+  const kind = { copy: "copy", loans: "copy", copies: "title", queue: "title", account: "patron", rules: "kind" }[question];
+  if (of !== null && of !== kind) return say(TEXTS.otherScanned, { is: nameOf(of), wanted: nameOf(kind) ?? TEXTS.aKind });
+  return isNumber(number) ? null : say(TEXTS.wrongForm, { what: TEXTS.numberForm });
 }
 
-// What is found is a text of patrons' names, or of titles.
-function find(desk, question) {
-  const text = it("sought").value.trim();
-  if (text === "") return tell(say(TEXTS.wrongForm, { what: TEXTS.soughtForm }), true);
-  return ask(desk, question, text, 0, []);
+// Asks about what stands in the field of a form.
+function lookUp(desk, form, question) {
+  const text = form.querySelector("input").value.trim();
+  const scan = cut(text);
+  const problem = problemOf(question, text, scan);
+  moveTo(panelOf(question));
+  if (problem) return tell(problem, true);
+  return ask(desk, question, question.startsWith("find-") ? text : scan.number, 0, []);
 }
 
-// The rules of a kind of patrons, whose number is typed.
-function showRules(desk) {
-  const kind = it("ruled").value.trim();
-  if (!isNumber(kind)) return tell(say(TEXTS.wrongForm, { what: TEXTS.numberForm }), true);
-  return ask(desk, "rules", kind, 0, []);
-}
+const lookUps = () => [it("finding-patrons"), it("looking-patrons"), it("finding-titles"), it("looking")];
 
 function listenToButtons(desk) {
-  for (const button of [...it("list-buttons").querySelectorAll("button"), ...it("setting-buttons").querySelectorAll("button")]) {
+  for (const button of it("desk").querySelectorAll(".asking button")) {
     button.addEventListener("click", () => ask(desk(), button.value, desk().branch, 0, []));
   }
-  it("more").addEventListener("click", () => ask(desk(), shown.question, shown.about, shown.list.after, shown.list.rows));
+  it("more").addEventListener("click", () => ask(desk(), view.shown.question, view.shown.about, view.shown.list.after, view.shown.list.rows));
   it("print-list").addEventListener("click", () => print("list"));
   it("save-list").addEventListener("click", save);
-  it("unshelve-all").addEventListener("click", () => unshelve([...tableShown(shown).expired.values()]));
+  it("unshelve-all").addEventListener("click", () => unshelve([...tableShown(view.shown).expired.values()]));
 }
 
 export function clearLists() {
-  asked += 1;
-  [shown, last] = [null, null];
+  view.asked += 1;
+  Object.assign(view, { shown: null, last: null });
   it("list-paper").hidden = true;
   it("list-rows").replaceChildren();
   tell("");
@@ -171,39 +178,27 @@ export function clearLists() {
 
 // The day of the till is the library's, unless the clerk chose another.
 export function showTillDay(day) {
-  if (["", tillDay].includes(it("till-day").value)) it("till-day").value = day;
-  tillDay = day;
+  if (["", view.tillDay].includes(it("till-day").value)) it("till-day").value = day;
+  view.tillDay = day;
 }
 
 // Clears what was looked up or found, also where its answer is still to come: it may be of the patron who has left. A list of the branch stays.
 export function clearLookUps() {
-  const forms = [it("looking"), it("finding")];
-  const lookedUp = forms.flatMap((form) => [...form.querySelectorAll("button")].map((button) => button.value));
-  for (const form of forms) form.reset();
-  if (lookedUp.includes(shown?.question) || lookedUp.includes(last)) clearLists();
+  for (const form of lookUps()) form.reset();
+  if (["patrons", "catalogue"].includes(panelOf(view.shown?.question)) || ["patrons", "catalogue"].includes(panelOf(view.last))) clearLists();
 }
 
 // `desk` gives the branch of the open desk, and how it asks.
 export function listenForLists(desk) {
   listenToButtons(desk);
-  it("counting").addEventListener("submit", (event) => {
-    event.preventDefault();
-    ask(desk(), "till", it("till-day").value || desk().day, 0, []);
-    focusScan();
-  });
-  it("looking").addEventListener("submit", (event) => {
-    event.preventDefault();
-    lookUp(desk(), event.submitter?.value ?? "copy");
-    focusScan();
-  });
-  it("ruling").addEventListener("submit", (event) => {
-    event.preventDefault();
-    showRules(desk());
-    focusScan();
-  });
-  it("finding").addEventListener("submit", (event) => {
-    event.preventDefault();
-    find(desk(), event.submitter?.value ?? "find-patrons");
-    focusScan();
-  });
+  const till = () => ask(desk(), "till", it("till-day").value || desk().day, 0, []);
+  for (const form of [it("counting"), it("ruling"), ...lookUps()]) {
+    form.addEventListener("submit", (event) => {
+      event.preventDefault();
+      const { value } = event.submitter ?? form.querySelector("button");
+      if (value === "till") till();
+      else lookUp(desk(), form, value);
+      focusScan();
+    });
+  }
 }

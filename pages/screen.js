@@ -20,6 +20,7 @@ export function showOpen(isOpen) {
   it("sign-in").hidden = isOpen;
   it("scanning").hidden = !isOpen;
   it("desk").hidden = !isOpen;
+  it("sign-out").hidden = !isOpen;
 }
 
 export function showMode(value) {

@@ -13,6 +13,7 @@ import { labelOf } from "../../pages/saying.js";
 import { beginsScan, cut, endsScan, itemOf, needsConfirming, scansIn, wanted } from "../../pages/scans.js";
 import { slipLines } from "../../pages/slips.js";
 import { SignedIn } from "../../pages/signed_in.js";
+import { placeAfter } from "../../pages/tabs.js";
 import { TEXTS } from "../../pages/texts.js";
 import { Work } from "../../pages/work.js";
 import { Kept, network } from "../lib/network.mjs";
@@ -781,4 +782,6 @@ for (const [at, detail] of [[0, 1], [120, 2], [300, 1], [590, 0], [700, 1], [125
   click({ detail });
 }
 is(clicked, 3);
+// ---- the arrow keys go round among the tabs, and other keys to none
+is([["ArrowRight", 0], ["ArrowRight", 4], ["ArrowLeft", 4], ["ArrowLeft", 0], ["Home", 3], ["End", 0], ["Enter", 1], ["4", 1], ["toString", 1]].map(([key, place]) => placeAfter(key, place, 5)), [1, 0, 3, 4, 0, 4, null, null, null]);
 console.log(`hands: ${tried} tried`);

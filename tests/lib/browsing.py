@@ -114,6 +114,28 @@ class Desk(Page):
         self.type("branch", str(branch))
         self.it("branch").send_keys(Keys.ENTER)
 
+    def tab(self, panel):
+        """Chooses the tab of a panel."""
+        self.driver.find_element(By.CSS_SELECTOR, f"[aria-controls={panel}]").click()
+
+    def shown(self, found):
+        """An element, whose tab is chosen."""
+        panel = self.driver.execute_script("return arguments[0].closest('[role=tabpanel]')?.id ?? null", found)
+        if panel is not None and not self.it(panel).is_displayed():
+            self.tab(panel)
+        return found
+
+    def field(self, name):
+        return self.shown(self.it(name))
+
+    def press(self, value):
+        """Presses the button by which something is asked."""
+        self.shown(self.driver.find_element(By.CSS_SELECTOR, f"[role=tabpanel] button[value={value}]")).click()
+
+    def type(self, name, text):
+        self.field(name)
+        super().type(name, text)
+
     def mark(self):
         """Marks what was noted last, so that the next note is told from it."""
         self.driver.execute_script("const it = document.getElementById('last').firstElementChild; if (it) it.dataset.seen = 'yes'")

@@ -324,18 +324,18 @@ class Clerk:
         desk = self.at(parts[0]) if question in ("pulls", "shelf", "overdue", "transits") else self.desk
         if question == "till":
             self.driver.execute_script("arguments[0].value = arguments[1]", desk.it("till-day"), parts[0])
-            self.driver.find_element(By.CSS_SELECTOR, "#counting button").click()
+            desk.press("till")
         elif question in ("account", "loans"):
-            desk.type("looked", f"{'P' if question == 'account' else 'C'}{parts[0]}")
-            self.driver.find_element(By.CSS_SELECTOR, f"#looking button[value={question}]").click()
+            desk.type(*(("looked-patron", f"P{parts[0]}") if question == "account" else ("looked", f"C{parts[0]}")))
+            desk.press(question)
         elif question == "rules":
             desk.type("ruled", parts[0])
             desk.it("ruled").send_keys(Keys.ENTER)
         elif question.startswith("find-"):
-            desk.type("sought", " ".join(parts[1:]).strip("'"))
-            self.driver.find_element(By.CSS_SELECTOR, f"#finding button[value={question}]").click()
+            desk.type(f"sought-{question[5:-1]}", " ".join(parts[1:]).strip("'"))
+            desk.press(question)
         else:
-            self.driver.find_element(By.CSS_SELECTOR, f"#list-buttons button[value={question}]").click()
+            desk.press(question)
         found = cells(question, answer)
         until("the list is answered", lambda: desk.it("list-told").text != "Sending …")
         rows = desk.items("list-rows")
@@ -519,7 +519,7 @@ def borrowed(driver, base, pictures):
     need("Ann borrows again", desk.scan("C11")[:28], "Rivers of the North lent to ")
     until("her receipt", lambda: len(desk.items("receipt")) == 1)
     need("what is on it", re.fullmatch(r"Rivers of the North, due \d{4}-\d\d-\d\d", desk.items("receipt")[0]) is not None, True)
-    driver.find_element(By.CSS_SELECTOR, "#list-buttons button[value=debts]").click()
+    desk.press("debts")
     until("who owes for the days after the till", lambda: desk.items("list-rows") == ["3 Cy Dünn 0.40"])
     if pictures:
         look(driver, "desk-page.png", (1280, 1000))

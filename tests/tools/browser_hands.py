@@ -87,7 +87,7 @@ def refused_scans(driver, fake):
     desk.it("send-on").click()
     until("the rest", lambda: "check-in 9 1" in fake.words())
     # without the sound, and thrown away
-    desk.it("sound").click()
+    desk.field("sound").click()
     driver.execute_script("window.notes = 0")
     desk.keys("5", Keys.ENTER, "7", Keys.ENTER)
     until("a refusal", lambda: desk.is_wrong() and desk.items("waiting") == ["copy 7"])
@@ -96,7 +96,7 @@ def refused_scans(driver, fake):
     desk.keys("8", Keys.ENTER)
     until("what comes later is sent", lambda: "check-in 8 1" in fake.words())
     need("what was thrown away isn't", "check-in 7 1" in fake.words(), False)
-    desk.it("sound").click()
+    desk.field("sound").click()
 
 
 def unread_answers(driver, fake):
@@ -125,7 +125,7 @@ def receipts(driver, fake):
     desk.keys("1", Keys.ENTER, "10", Keys.ENTER)
     for words in ("pay 1 0.60", "pay 2 0.30", "patron 2 1 cardkey00002 'Bo Carr'"):
         desk.type("words", words)
-        desk.it("words").send_keys(Keys.ENTER)
+        desk.field("words").send_keys(Keys.ENTER)
     until("all is done", lambda: "patron 2 1 … Bo Carr: Done." in desk.items("last"))
     rows = ["Rivers of the North, due 2026-03-09", "Paid 0.60, still owed 0.40"]
     need("the receipt", desk.items("receipt"), rows)
@@ -300,7 +300,7 @@ def hands_at_the_desk(driver, fake):
     late = threading.Event()
     fake.says(answers({"check-in": reply("fine 0 shelf 1", late), "pay": reply("owed 0")}))
     desk.keys("14", Keys.ENTER)
-    desk.it("words").send_keys("check-")
+    desk.field("words").send_keys("check-")
     late.set()
     until("an answer meanwhile", lambda: "copy 14" not in desk.items("waiting") and any("check-in 14 1" in it for it in desk.items("last")))
     desk.keys("in 15 1")
@@ -365,11 +365,11 @@ def nobody_stays(driver, fake):
         desk.keys("2", Keys.ENTER, "20", Keys.ENTER)
     visit()
     until("it is lent", lambda: "Salt Roads" in desk.told())
-    desk.type("looked", "P2")
-    driver.find_element("css selector", "#looking button[value=account]").click()
+    desk.type("looked-patron", "P2")
+    desk.press("account")
     until("the account", lambda: len(rows(desk)) == 1)
     desk.it("next").click()
-    need("after Next patron", (is_free(), [desk.it(it).is_displayed() for it in ("patron", "visit", "list-paper")], desk.it("looked").get_attribute("value"), desk.focus()), ([], [False] * 3, "", "scan"))
+    need("after Next patron", (is_free(), [desk.it(it).is_displayed() for it in ("patron", "visit", "list-paper")], desk.it("looked-patron").get_attribute("value"), desk.focus()), ([], [False] * 3, "", "scan"))
     desk.keys("9", Keys.ENTER)
     until("a card that isn't known", lambda: desk.told() == "patron 9: There is no such patron.")
     need("nobody", (is_free(), desk.it("patron").is_displayed()), ([], False))
@@ -388,8 +388,8 @@ def nobody_stays(driver, fake):
     visit()
     until("it is lent", lambda: "Salt Roads" in desk.told())
     fake.says(answers({"account 1": reply("patron 1 owed 40 name Bo Carr\nend", late[2]), "page 2": reply(bo), "check-out": [reply("loan 2 due 2026-03-09", it) for it in late]}))
-    desk.type("looked", "P1")
-    driver.find_element("css selector", "#looking button[value=account]").click()
+    desk.type("looked-patron", "P1")
+    desk.press("account")
     until("the account is asked for", lambda: "account 1 0" in fake.words())
     desk.it("next").click()
     late[2].set()
@@ -427,11 +427,11 @@ def panel_of_now(driver, fake):
     desk.keys("1", Keys.ENTER)
     until("her page", lambda: len(desk.items("patron-lines")) == 2)
     for words in ("check-in 20 1", "cancel-hold 7"):
-        desk.it("words").send_keys(words, Keys.ENTER)
+        desk.field("words").send_keys(words, Keys.ENTER)
     until("nothing is left", lambda: "cancel-hold 7" in fake.words() and desk.items("patron-lines") == [])
     desk.keys("21", Keys.ENTER)
     until("what is of now", lambda: desk.items("patron-lines") == ["Winter Bees, loan 2, due 2026-03-16, 1 renewal left"])
-    desk.it("words").send_keys("amend-title 400 Bees", Keys.ENTER)
+    desk.field("words").send_keys("amend-title 400 Bees", Keys.ENTER)
     until("the title of now", lambda: desk.items("patron-lines") == ["Bees, loan 2, due 2026-03-16, 1 renewal left"])
 
 
@@ -448,12 +448,12 @@ def library_day(driver, fake):
     need("the day of the till", desk.it("till-day").get_attribute("value"), "2026-03-02")
     desk.keys("1", Keys.ENTER)
     until("the receipt", lambda: desk.it("receipt-head").text == "Ann Bell, 2026-03-02, branch 1")
-    driver.find_element("css selector", "#list-buttons button[value=pulls]").click()
+    desk.press("pulls")
     until("a list", lambda: desk.it("list-place").text == "branch 1, 2026-03-02")
     need("320 pixels", desk.fits(320), True)
     fake.day = machine
     desk.type("words", f"begin-day {machine}")
-    desk.it("words").send_keys(Keys.ENTER)
+    desk.field("words").send_keys(Keys.ENTER)
     until("the day that was begun", lambda: desk.it("place").text == f"Town library, branch 1, {machine}")
     need("it isn't loud", (desk.it("other-day").text, looks()[1]), ("", False))
 
@@ -475,10 +475,10 @@ def names(driver, fake):
     need("what stands by itself", [alone(it) for it in ("#told", "#patron-head", "#patron-lines", "#receipt-head", "#receipt")], [[long, sara], [sara], [long, sara], [sara], [long]])
     need("what is last", alone("#last")[:2], [long, sara])
     need("320 pixels with what is told", desk.fits(320), True)
-    desk.it("words").send_keys("check-in 20 1", Keys.ENTER)
+    desk.field("words").send_keys("check-in 20 1", Keys.ENTER)
     until("a slip", lambda: desk.it("slips").is_displayed())
     need("what stands by itself on a slip", alone("#slip-list"), [sara, long])
-    driver.find_element("css selector", "#list-buttons button[value=overdue]").click()
+    desk.press("overdue")
     until("a row", lambda: len(rows(desk)) == 1)
     need("what stands by itself in a list", alone("#list-rows"), [long])
     for pixels in (320, 900):
@@ -531,7 +531,7 @@ def next_patron(driver, fake):
     until("the next one", lambda: lent()[-1] == "page 1" and desk.it("patron").is_displayed())
     need("nothing was lent meanwhile", [it for it in fake.words() if it.startswith("check-out 4")], [])
     # from another field, and by the keyboard alone
-    desk.it("words").send_keys("check-")
+    desk.field("words").send_keys("check-")
     alt_n(ActionChains(driver)).perform()
     need("from another field", (desk.it("asked").text, desk.focus(), desk.it("words").get_attribute("value")), ("Scan or type the patron's number.", "scan", "check-"))
     desk.keys("4", Keys.ENTER, Keys.TAB)
@@ -593,7 +593,7 @@ def keys_anywhere(driver, fake):
     desk.mode("check-in")
 
     def click(value):
-        driver.find_element("css selector", f"#list-buttons button[value={value}]").click()
+        desk.press(value)
 
     def is_seen():
         """The line is whole on the screen, and nothing lies over it."""
@@ -636,7 +636,7 @@ def keys_anywhere(driver, fake):
     until("what is put in anywhere", lambda: "check-in 40 1" in fake.words() and "check-in 41 1" in fake.words())
     # a field that the clerk is in keeps what is typed, also after a refusal
     desk.keys("2", Keys.ENTER)
-    desk.it("words").send_keys("check-")
+    desk.field("words").send_keys("check-")
     late[2].set()
     until("a refusal", lambda: desk.is_wrong() and wide in desk.told())
     desk.keys("in 50 1")
@@ -687,7 +687,7 @@ def lists(driver, fake):
                        "missing-copies 0": reply("copy 30 home 1 title 300 Night Ferries\nend"), "loans 20 0": reply("loan 2 patron 2 made 2026-03-02 due 2026-03-09\nend"), "account 2 0": (0.0, 403, "<html>"),
                        "branches 0": reply("branch 1 pickup 5 week ooooooc name Main\nend"), "closed-days 1 0": reply("end"), "rules 2 0": refusal(17),
                        "overdue": reply("what")}))
-    driver.find_element("css selector", "#list-buttons button[value=pulls]").click()
+    desk.press("pulls")
     until("a hundred rows", lambda: len(rows(desk)) == 100)
     need("more is offered", desk.it("more").is_displayed(), True)
     desk.it("more").click()
@@ -710,28 +710,29 @@ def lists(driver, fake):
     need("what is saved", [it.split("\r\n")[:2] for it in saved], [["Copy,Title,Hold", "201,Last,101"]])
     # two lists are asked for, and the first is answered last
     for value in ("pulls", "debts"):
-        driver.find_element("css selector", f"#list-buttons button[value={value}]").click()
+        desk.press(value)
     until("none", lambda: desk.it("list-told").text == "There are none.")
     late.set()
     time.sleep(0.5)
     need("the list that was asked for last", (desk.it("list-head").text, rows(desk)), ("Patrons who owe", []))
     for value, told in (("transits", "There is no such branch."), ("overdue", "This page can't read the answer (status 200). It is not known whether the request was carried out.")):
-        driver.find_element("css selector", f"#list-buttons button[value={value}]").click()
+        desk.press(value)
         until(told, lambda: desk.it("list-told").text == told)
     desk.type("looked", "C20")
     desk.it("looked").send_keys(Keys.ENTER)
     until("a copy", lambda: rows(desk) == ["20 Salt Roads 200 branch 2 12.00 On loan to Bo Carr, due 2026-03-09."])
-    driver.find_element("css selector", "#looking button[value=loans]").click()
+    desk.press("loans")
     until("its loans", lambda: rows(desk) == ["2 2 2026-03-02 2026-03-09"])
-    driver.find_element("css selector", "#list-buttons button[value=missing-copies]").click()
+    desk.press("missing-copies")
     until("the missing copies", lambda: rows(desk) == ["30 Night Ferries 300 branch 1"])
     desk.type("looked", "P2")
-    driver.find_element("css selector", "#looking button[value=copy]").click()
+    desk.press("copy")
     need("a card is no copy", desk.it("list-told").text, "This is a patron's card, but a copy is expected.")
-    driver.find_element("css selector", "#looking button[value=account]").click()
+    desk.type("looked-patron", "P2")
+    desk.press("account")
     until("an answer that isn't understood", lambda: "(status 403)" in desk.it("list-told").text)
     for value, of in (("branches", "1 Main Sun 5"), ("closed-days", None)):
-        driver.find_element("css selector", f"#setting-buttons button[value={value}]").click()
+        desk.press(value)
         until(value, lambda: rows(desk) == ([of] if of else []))
     need("the branch that they are of", desk.it("list-head").text, "Days closed singly, branch 1")
     desk.type("ruled", "2")
@@ -742,13 +743,50 @@ def lists(driver, fake):
     need("nothing of it stays", rows(desk), [])
 
 
+def tabs(driver, fake):
+    """One panel is shown, and the arrow keys choose among them; a scan goes to its line from each, and what is asked in one stays there."""
+    desk = Desk(driver, fake.url, 1)
+    fake.says(answers({"check-in": reply("fine 0 shelf 1"), "pulls": reply("hold 1 copy 11 title 7 Tides\nend")}))
+    panels = ["circulation", "lists", "patrons", "catalogue", "settings"]
+
+    def state():
+        """The panels that are shown, those whose tab is chosen, and those whose tab the tab key reaches."""
+        return driver.execute_script("""const tabs = [...document.querySelectorAll('[role=tablist] > [role=tab]')], of = (those) => those.map((it) => it.getAttribute('aria-controls'));
+            return [[...document.querySelectorAll('[role=tabpanel]')].filter((it) => it.checkVisibility()).map((it) => it.id), of(tabs.filter((it) => it.ariaSelected === 'true')), of(tabs.filter((it) => it.tabIndex === 0))];""")
+    need("first of all", state(), [["circulation"]] * 3)
+    desk.tab("circulation")
+    for key, name in ((Keys.ARROW_RIGHT, "lists"), (Keys.END, "settings"), (Keys.ARROW_RIGHT, "circulation"), (Keys.ARROW_LEFT, "settings"), (Keys.HOME, "circulation")):
+        desk.keys(key)
+        need(name, (state(), desk.focus()), ([[name]] * 3, f"tab-{name}"))
+    need("each panel has the name of its tab", sorted((it["role"]["value"], it["name"]["value"]) for it in driver.execute_cdp_cmd("Accessibility.getFullAXTree", {})["nodes"] if it["role"]["value"] in ("tab", "tabpanel")),
+         [*(("tab", it) for it in ("Catalogue", "Circulation", "Lists", "Patron", "Settings")), ("tabpanel", "Circulation")])
+    desk.mode("check-in")
+    for copy, panel in enumerate(panels, 10):
+        desk.tab(panel)
+        need("no name is empty, and it fits a telephone", ([it for it in desk.names() if not it[1]], desk.fits(320)), ([], True))
+        desk.keys(str(copy))
+        need("the focus is on the line", desk.focus(), "scan")
+        desk.keys(Keys.ENTER)
+        until(f"a scan in {panel}", lambda: f"check-in {copy} 1" in fake.words())
+        need("the panel stays", state()[0], [panel])
+    desk.press("pulls")
+    until("a list", lambda: rows(desk) == ["11 Tides 1"])
+    desk.tab("patrons")
+    need("it isn't here", desk.it("list-paper").is_displayed(), False)
+    desk.type("looked-patron", "x")
+    desk.press("account")
+    need("what is wrong is told here, without the list", (desk.it("list-told").text[:14], desk.it("list-told").is_displayed(), desk.it("list-paper").is_displayed()), ("This should be", True, False))
+    desk.it("sign-out").click()
+    need("nothing can be scanned, nor anybody sign out", [desk.it(it).is_displayed() for it in ("scanning", "desk", "sign-out")], [False] * 3)
+
+
 def past_their_day(driver, fake):
     """Ready holds that are past their day have a button each, and one for all; each is unshelved once."""
     desk = Desk(driver, fake.url, 1)
     row = "{:>10} {:>7} {:>7} {:<10} {}"
     lines = [row.format("hold", "copy", "patron", "until", "title")] + [row.format(hold, 10 + hold, 1, until, "Tides") for hold, until in ((1, "2026-01-02"), (2, "2999-01-02"), (3, "2026-01-03"), (4, "2026-01-04"))]
     fake.says(answers({"shelf 1 0": reply("\n".join([*lines, "end"])), "unshelve": reply("shelf 1")}))
-    driver.find_element(By.CSS_SELECTOR, "#list-buttons button[value=shelf]").click()
+    desk.press("shelf")
     until("the hold shelf", lambda: len(rows(desk)) == 4)
     need("who is past", [it.endswith("Unshelve") for it in rows(desk)], [True, False, True, True])
     need("all", (desk.it("unshelve-all").is_displayed(), desk.it("unshelve-all").text), (True, "Unshelve all 3 past their day"))
@@ -797,7 +835,7 @@ def another_day(driver, fake):
     desk = Desk(driver, fake.url, 1)
     fake.says(answers({"begin-day": reply("ok"), "pay": reply("owed 0")}))
     desk.type("words", "begin-day 2190-12-31")
-    desk.it("words").send_keys(Keys.ENTER)
+    desk.field("words").send_keys(Keys.ENTER)
     until("it is asked", lambda: desk.is_wrong() and desk.told().endswith("To begin 2190-12-31, type yes. If not, go on without it."))
     need("the next scan goes to its line", desk.focus(), "scan")
     need("the button", desk.it("again").text, "Begin 2190-12-31")
@@ -821,7 +859,7 @@ def another_day(driver, fake):
     need("320 pixels", desk.fits(320), True)
 
 
-PARTS = (lists, past_their_day, slips, fast_scans, refused_scans, unread_answers, receipts, signed_out, telephone, opening, scanners, hands_at_the_desk, another_day, loaded_anew, nobody_stays, panel_of_now, library_day, names, next_patron, closed_pages, keys_anywhere, misread)
+PARTS = (tabs, lists, past_their_day, slips, fast_scans, refused_scans, unread_answers, receipts, signed_out, telephone, opening, scanners, hands_at_the_desk, another_day, loaded_anew, nobody_stays, panel_of_now, library_day, names, next_patron, closed_pages, keys_anywhere, misread)
 
 
 def main():
