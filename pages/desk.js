@@ -8,7 +8,9 @@ import { LibraryDay } from "./library_day.js";
 import { Papers } from "./papers.js";
 import { saidNo } from "./saying.js";
 import { backToLine, focusScan, listenForScans } from "./scan_line.js";
-import { MOST_NOTES, clearNotes, it, note, print, putSlipsAway, showHead, showMode, showOpen, showSlip, showVisit, showWaiting, showWanted, tell, tellQuietly } from "./screen.js";
+import { wanted } from "./scans.js";
+import { MOST_NOTES, clearNotes, it, mode, note, print, putSlipsAway, showHead, showMode, showOpen, showSlip, showVisit, showWaiting, showWanted, tell, tellQuietly } from "./screen.js";
+import { SearchBox } from "./search_box.js";
 import { isSoundOn, switchSound } from "./sound.js";
 import { listenForTabs, showTab } from "./tabs.js";
 import { TEXTS, fillIn, say } from "./texts.js";
@@ -148,6 +150,7 @@ function closing(unknown, unsent) {
 it("sign-out").addEventListener("click", () => {
   const { unknown, unsent } = work.end();
   leaving.abort();
+  search.end();
   sessionStorage.clear();
   showVisit(null);
   putSlipsAway();
@@ -164,7 +167,12 @@ it("sign-out").addEventListener("click", () => {
 });
 
 fillIn();
-listenForScans(() => work);
+const search = new SearchBox({
+  ask: (words, signal) => askBy(desk().key, signal, words, newKey(), () => tellQuietly(TEXTS.unknownOpening, true)),
+  wanted: () => wanted(mode(), work.expected),
+  take: (number) => work.scan(mode(), number),
+});
+listenForScans({ work: () => work, search });
 listenForWords(() => work);
 listenForTabs();
 listenForLists(() => ({ branch: desk().branch, day: day.now, take: (words) => work.words(words), ask: (words, unknown) => askBy(desk().key, leaving.signal, words, newKey(), unknown) }));

@@ -20,29 +20,39 @@ export function backToLine() {
   if (!it("desk").hidden && (at === it("scan") || !isField(at))) focusScan();
 }
 
-function take(work, event, text) {
-  event.preventDefault();
-  for (const scan of scansIn(text)) work().scan(mode(), scan);
+function clearLine(search) {
   it("scan").value = "";
-  focusScan();
+  search.end();
+}
+
+function take({ work, search }, event, text) {
+  event.preventDefault();
+  const scans = scansIn(text);
+  if (scans.length === 1 && search.enter(text)) return focusScan();
+  for (const scan of scans) work().scan(mode(), scan);
+  clearLine(search);
+  return focusScan();
 }
 
 // A field has one line: scans that are put into it together would be glued.
-function paste(work, event) {
+function paste(desk, event) {
   const text = event.clipboardData.getData("text");
-  if (/[\r\n\t]/.test(text)) take(work, event, it("scan").value + text);
+  if (/[\r\n\t]/.test(text)) take(desk, event, it("scan").value + text);
 }
 
-function listenToLine(work) {
-  const taken = (event) => take(work, event, it("scan").value);
+function listenToLine(desk) {
+  const taken = (event) => take(desk, event, it("scan").value);
   it("scanning").addEventListener("submit", taken);
   it("scan").addEventListener("keydown", (event) => endsScan(event, it("scan").value) && taken(event));
-  it("scan").addEventListener("paste", (event) => paste(work, event));
+  it("scan").addEventListener("paste", (event) => paste(desk, event));
 }
 
 // By the arrows one goes on among the modes; whatever else chooses one leads to the line.
-function listenToModes(work) {
-  it("modes").addEventListener("change", () => work().choose(mode()));
+function listenToModes({ work, search }) {
+  it("modes").addEventListener("change", () => {
+    work().choose(mode());
+    search.typed();
+  });
   it("modes").addEventListener("click", () => lastKey.startsWith("Arrow") || focusScan());
   it("modes").addEventListener("keydown", (event) => event.key === "Enter" && focusScan());
 }
@@ -64,11 +74,11 @@ function listenToButtons(work) {
 
 // Next patron counts when a mouse presses it, for the page may move before it lets go, and then no click comes; and however soon it comes after another one. What
 // stands in the line is for nobody then, and is told.
-function listenToNext(work) {
+function listenToNext({ work, search }) {
   let pressedBy = "";
   const end = () => {
     const left = it("scan").value.trim();
-    it("scan").value = "";
+    clearLine(search);
     work().nextPatron();
     if (left !== "") tell(say(TEXTS.closedWaiting, { what: left }), true);
     focusScan();
@@ -87,14 +97,14 @@ const isForLine = (event) => beginsScan(event) || (["Enter", "Backspace"].includ
 
 // What is scanned while a button has the focus goes to the line all the same. A click that isn't on a field or a button leads there too, but text that is being
 // selected stays so.
-function listenToPage(work) {
+function listenToPage(desk) {
   document.addEventListener("keydown", (event) => {
     lastKey = event.key;
     if (isForLine(event)) backToLine();
   });
   document.addEventListener("paste", (event) => {
     if (it("desk").hidden || isField(event.target)) return;
-    paste(work, event);
+    paste(desk, event);
     if (!event.defaultPrevented) it("scan").value += event.clipboardData.getData("text").trim();
     focusScan();
   });
@@ -106,11 +116,12 @@ function listenToPage(work) {
   });
 }
 
-// `work` gives what the open desk does.
-export function listenForScans(work) {
-  listenToLine(work);
-  listenToModes(work);
+// `work` gives what the open desk does, and `search` is what letters in the line search for.
+export function listenForScans({ work, search }) {
+  const desk = { work, search };
+  listenToLine(desk);
+  listenToModes(desk);
   listenToButtons(work);
-  listenToNext(work);
-  listenToPage(work);
+  listenToNext(desk);
+  listenToPage(desk);
 }

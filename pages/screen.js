@@ -132,5 +132,6 @@ export function showWanted(patron) {
     title: TEXTS.askTitle,
   }[wanted(mode(), patron)];
   it("asked").textContent = say(asked, { patron });
+  it("scan").inputMode = wanted(mode(), patron) === "amount" ? "decimal" : "text";
   it("next").hidden = patron === null;
 }

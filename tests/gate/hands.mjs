@@ -11,6 +11,7 @@ import { Papers } from "../../pages/papers.js";
 import { receiptHead, receiptRow } from "../../pages/receipt.js";
 import { labelOf } from "../../pages/saying.js";
 import { beginsScan, cut, endsScan, itemOf, needsConfirming, scansIn, wanted } from "../../pages/scans.js";
+import { Search, searchedBy } from "../../pages/search.js";
 import { slipLines } from "../../pages/slips.js";
 import { SignedIn } from "../../pages/signed_in.js";
 import { placeAfter } from "../../pages/tabs.js";
@@ -782,6 +783,39 @@ for (const [at, detail] of [[0, 1], [120, 2], [300, 1], [590, 0], [700, 1], [125
   click({ detail });
 }
 is(clicked, 3);
+// ---- letters in the place of a patron or a title are searched for, and scans, numbers and a single letter aren't
+is(["bell an", "Åsa", "שרה", "4x1y", "P4", "Pat", "4", "", "3x2", "Bo", "C20"].map((text) => searchedBy("patron", cut(text, { patron: "", copy: "C" }))),
+  [...Array(4).fill("find-patrons"), null, "find-patrons", null, null, null, "find-patrons", null]);
+is(["salt", "100"].map((text) => searchedBy("title", cut(text))), ["find-titles", null]);
+is(["copy", "amount"].map((wanted) => searchedBy(wanted, cut("salt"))), [null, null]);
+// what is typed on is searched for once it rests; the last answer alone is shown, and further parts where they are asked for
+const searches = [], finds = [];
+const search = new Search((words, signal) => new Promise((done) => { searches.push({ words, signal, done: (text) => done({ reply: { kind: "shown" }, text }) }); }), (found, begin) => finds.push([found.rows.map(({ patron }) => patron), found.after, begin]), 20);
+const pause = (milliseconds) => new Promise((done) => setTimeout(done, milliseconds));
+for (const text of ["be", "bel", "bell"]) search.type("find-patrons", text);
+is(searches.length, 0);
+await pause(40);
+is(searches.map(({ words }) => words.join(" ")), ["find-patrons 0 bell"]);
+search.type("find-patrons", "bella");
+await pause(40);
+searches[1].done("patron 9 owed 0 name Bella\nafter 9");
+await pause(1);
+searches[0].done("patron 1 owed 0 name Ann Bell\nend");
+await pause(1);
+is([finds, searches[0].signal.aborted], [[[[9], 9, 0]], true]);
+search.more();
+is(searches[2].words, ["find-patrons", 9, "bella"]);
+searches[2].done("patron 12 owed 0 name Bella\nend");
+await pause(1);
+is(finds[1], [[9, 12], null, 1]);
+// once nothing is searched for nothing is shown, nor asked any more
+search.now("find-patrons", "ann");
+is(searches[3].words, ["find-patrons", 0, "ann"]);
+search.type(null, "");
+searches[3].done("patron 1 owed 0 name Ann Bell\nend");
+await pause(30);
+is([finds.slice(2), searches.length], [[[[], null, 0]], 4]);
+
 // ---- the arrow keys go round among the tabs, and other keys to none
 is([["ArrowRight", 0], ["ArrowRight", 4], ["ArrowLeft", 4], ["ArrowLeft", 0], ["Home", 3], ["End", 0], ["Enter", 1], ["4", 1], ["toString", 1]].map(([key, place]) => placeAfter(key, place, 5)), [1, 0, 3, 4, 0, 4, null, null, null]);
 console.log(`hands: ${tried} tried`);

@@ -265,7 +265,7 @@ def scanners(driver, fake):
     desk.it("throw-away").click()
     fake.says(answers({}))
     desk.it("next").click()
-    need("a patron is wanted", desk.it("asked").text, "Scan or type the patron's number.")
+    need("a patron is wanted", desk.it("asked").text, "Scan or type the patron's number, or a part of the name.")
     desk.keys("C20", Keys.ENTER)
     until("a copy in the place of a card", lambda: desk.told() == "C20: This is a copy, but a patron's card is expected.")
     need("nothing is sent", fake.sent, [])
@@ -273,7 +273,7 @@ def scanners(driver, fake):
     desk.keys("99", Keys.ENTER)
     until("a refused patron", lambda: desk.is_wrong() and desk.told().startswith("patron 99: "))
     need("why", desk.told(), "patron 99: There is no such copy.")
-    need("isn't the current one", desk.it("asked").text, "Scan or type the patron's number.")
+    need("isn't the current one", desk.it("asked").text, "Scan or type the patron's number, or a part of the name.")
 
 
 def hands_at_the_desk(driver, fake):
@@ -340,7 +340,7 @@ def loaded_anew(driver, fake):
     desk.it("next").click()
     need("nobody after Next patron", again(), ("renew", "Scan a copy to renew."))
     desk.mode("check-out")
-    need("nor in the next mode", again(), ("check-out", "Scan or type the patron's number."))
+    need("nor in the next mode", again(), ("check-out", "Scan or type the patron's number, or a part of the name."))
     desk.keys("1", Keys.ENTER)
     until("the next page", lambda: "page 1" in fake.words() and desk.it("patron").is_displayed())
     desk.mode("check-in")
@@ -508,7 +508,7 @@ def next_patron(driver, fake):
     # two patrons within half a second, before the first answer
     keys = alt_n(ActionChains(driver).send_keys("1", Keys.ENTER, "31", Keys.ENTER))
     alt_n(keys.send_keys("4", Keys.ENTER, "32", Keys.ENTER)).perform()
-    need("a patron is wanted", (desk.it("asked").text, desk.focus()), ("Scan or type the patron's number.", "scan"))
+    need("a patron is wanted", (desk.it("asked").text, desk.focus()), ("Scan or type the patron's number, or a part of the name.", "scan"))
     until("all is sent", lambda: lent() == ["page 1", "check-out 1 31 1", "page 1", "page 4", "check-out 4 32 1", "page 4"] and not desk.it("queue").is_displayed())
     # a refusal comes between pressing and letting go
     fake.says(answers(slow))
@@ -519,7 +519,7 @@ def next_patron(driver, fake):
     late.set()
     until("a refusal", lambda: desk.is_wrong())
     ActionChains(driver).release().perform()
-    need("it counts", (desk.it("asked").text, desk.focus(), desk.it("patron").is_displayed()), ("Scan or type the patron's number.", "scan", False))
+    need("it counts", (desk.it("asked").text, desk.focus(), desk.it("patron").is_displayed()), ("Scan or type the patron's number, or a part of the name.", "scan", False))
     need("what stopped the rest stays", desk.told().startswith("copy 33, patron 1: Another patron is waiting for this title."), True)
     desk.go_on()
     # what is left in the line isn't glued to the next card
@@ -533,12 +533,12 @@ def next_patron(driver, fake):
     # from another field, and by the keyboard alone
     desk.field("words").send_keys("check-")
     alt_n(ActionChains(driver)).perform()
-    need("from another field", (desk.it("asked").text, desk.focus(), desk.it("words").get_attribute("value")), ("Scan or type the patron's number.", "scan", "check-"))
+    need("from another field", (desk.it("asked").text, desk.focus(), desk.it("words").get_attribute("value")), ("Scan or type the patron's number, or a part of the name.", "scan", "check-"))
     desk.keys("4", Keys.ENTER, Keys.TAB)
     desk.keys(Keys.TAB)
     need("the button has the focus", desk.focus(), "next")
     desk.keys(Keys.ENTER)
-    need("by Enter", (desk.it("asked").text, desk.focus()), ("Scan or type the patron's number.", "scan"))
+    need("by Enter", (desk.it("asked").text, desk.focus()), ("Scan or type the patron's number, or a part of the name.", "scan"))
 
 
 def closed_pages(driver, fake):
@@ -780,6 +780,66 @@ def tabs(driver, fake):
     need("nothing can be scanned, nor anybody sign out", [desk.it(it).is_displayed() for it in ("scanning", "desk", "sign-out")], [False] * 3)
 
 
+def searching(driver, fake):
+    """Letters in the line search for patrons, or for titles in Hold; the last answer is shown, and the arrow keys and Enter choose."""
+    desk, late = Desk(driver, fake.url, 1), threading.Event()
+    fake.says(answers({"find-patrons 0 be": reply("end", late), "find-patrons 0 bell": reply("patron 1 owed 40 name Ann Bell\npatron 4 owed 0 name Di Bell\nafter 4"), "find-patrons 4 bell": reply("patron 9 owed 0 name Zoë Bell\nend"),
+                       "find-patrons 0 eck": reply("patron 4 owed 0 name Di Eck\nend"), "find-patrons 0 zz": reply("end"), "find-patrons 0 ann": refusal(81), "find-titles 0 riv": reply("title 100 Rivers of the North\nend"),
+                       "page 1": reply(PAGE["1"]), "place-hold": reply("hold 7")}))
+
+    def state():
+        """Whether there is a list, what is chosen in it, and what is told of it."""
+        chosen = driver.execute_script("const it = document.getElementById('scan'), at = document.getElementById(it.getAttribute('aria-activedescendant')); return [it.ariaExpanded, at && at.ariaSelected, at && at.innerText]")
+        return [*chosen, desk.it("found-told").text]
+    desk.keys("be")
+    until("the first letters", lambda: fake.words() == ["find-patrons 0 be"])
+    desk.keys("ll")
+    until("who is found", lambda: desk.items("found") == ["Ann Bell, patron 1: owes 0.40", "Di Bell, patron 4: owes 0.00", "More"])
+    late.set()
+    time.sleep(0.3)
+    need("the last answer", (len(desk.items("found")), fake.words()), (3, ["find-patrons 0 be", "find-patrons 0 bell"]))
+    need("nothing is chosen yet", state(), ["true", None, None, "2 found. Choose one by the arrow keys and Enter."])
+    need("it fits a telephone", desk.fits(320), True)
+    desk.keys(Keys.ARROW_UP)
+    need("round to the last one", state()[2], "More")
+    desk.keys(Keys.ENTER)
+    until("the next part, whose first one is chosen", lambda: state()[:3] == ["true", "true", "Zoë Bell, patron 9: owes 0.00"])
+    desk.keys(Keys.ARROW_DOWN)
+    need("round to the first one", state()[2], "Ann Bell, patron 1: owes 0.40")
+    desk.keys(Keys.ENTER)
+    until("her page", lambda: desk.it("patron").is_displayed() and desk.told().startswith("Patron 1, Ann Bell"))
+    need("the line is empty, and no list is there", (desk.it("scan").get_attribute("value"), state(), desk.focus()), ("", ["false", None, None, ""], "scan"))
+    # a title, of which there is one, and which is chosen by Enter alone
+    desk.mode("place-hold")
+    desk.keys("riv")
+    until("the title", lambda: state()[:3] == ["true", "true", "Rivers of the North, title 100"])
+    desk.keys(Keys.ENTER)
+    until("a hold", lambda: "place-hold 1 100 1" in fake.words())
+    # Enter before the pause searches at once, and what is scanned next takes the place of the letters
+    desk.it("next").click()
+    desk.mode("check-out")
+    for text, told in (("zz", "Nothing is found by zz."), ("ann", "The key is wrong, or may not do this.")):
+        desk.keys(text, Keys.ENTER)
+        until(told, lambda: desk.it("found-told").text == told)
+    desk.keys("P4", Keys.ENTER)
+    until("the next card", lambda: desk.it("patron").is_displayed() and desk.told().startswith("Patron 4, Di Eck"))
+    # by a mouse, and Escape ends it
+    desk.it("next").click()
+    desk.keys("bell")
+    until("who is found", lambda: len(desk.items("found")) == 3)
+    desk.keys(Keys.ESCAPE)
+    need("it is over, and the letters stay", (state(), desk.it("scan").get_attribute("value")), (["false", None, None, ""], "bell"))
+    desk.it("scan").clear()
+    desk.keys("eck")
+    until("who is found", lambda: desk.items("found") == ["Di Eck, patron 4: owes 0.00"])
+    driver.find_element(By.ID, "found-0").click()
+    until("his page", lambda: desk.it("patron").is_displayed() and desk.it("patron-head").text.startswith("Di Eck"))
+    # a copy is never searched for
+    desk.keys("riv", Keys.ENTER)
+    until("no number", lambda: desk.told().startswith("riv: This should be") and desk.is_wrong())
+    need("nothing is asked", [it for it in fake.words() if it.endswith(" riv")], ["find-titles 0 riv"])
+
+
 def past_their_day(driver, fake):
     """Ready holds that are past their day have a button each, and one for all; each is unshelved once."""
     desk = Desk(driver, fake.url, 1)
@@ -859,7 +919,7 @@ def another_day(driver, fake):
     need("320 pixels", desk.fits(320), True)
 
 
-PARTS = (tabs, lists, past_their_day, slips, fast_scans, refused_scans, unread_answers, receipts, signed_out, telephone, opening, scanners, hands_at_the_desk, another_day, loaded_anew, nobody_stays, panel_of_now, library_day, names, next_patron, closed_pages, keys_anywhere, misread)
+PARTS = (tabs, searching, lists, past_their_day, slips, fast_scans, refused_scans, unread_answers, receipts, signed_out, telephone, opening, scanners, hands_at_the_desk, another_day, loaded_anew, nobody_stays, panel_of_now, library_day, names, next_patron, closed_pages, keys_anywhere, misread)
 
 
 def main():
