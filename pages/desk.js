@@ -1,11 +1,15 @@
 // The desk: it is opened with its key and its branch, and closed.
 
+import { act } from "./acting.js";
 import { askUntilAnswered, newKey } from "./asking.js";
-import { isKey, isNumber } from "./commands.js";
-import { clearLists, clearLookUps, listenForLists, showTillDay } from "./desk_lists.js";
+import { Branches } from "./branches.js";
+import { isKey } from "./commands.js";
+import { clearLists, clearLookUps, listEnded, listenForLists, showList, showTillDay } from "./desk_lists.js";
+import { EntryForms } from "./entry_forms.js";
 import { LeftBehind, openTabs } from "./left_behind.js";
 import { LibraryDay } from "./library_day.js";
 import { Papers } from "./papers.js";
+import { readList } from "./questions.js";
 import { saidNo } from "./saying.js";
 import { backToLine, focusScan, listenForScans } from "./scan_line.js";
 import { wanted } from "./scans.js";
@@ -13,7 +17,7 @@ import { MOST_NOTES, clearNotes, it, mode, note, print, putSlipsAway, showHead, 
 import { SearchBox } from "./search_box.js";
 import { isSoundOn, switchSound } from "./sound.js";
 import { listenForTabs, showTab } from "./tabs.js";
-import { TEXTS, fillIn, say } from "./texts.js";
+import { TEXTS, branchName, fillIn, say } from "./texts.js";
 import { listenForWords } from "./word_line.js";
 import { Work } from "./work.js";
 
@@ -25,6 +29,11 @@ let leaving = null;
 let day = null;
 let asking = null;
 let papers = null;
+const branches = new Branches(localStorage);
+const forms = new EntryForms((words) => {
+  work.press(words);
+  focusScan();
+});
 
 function desk() {
   const text = sessionStorage.getItem(DESK);
@@ -57,7 +66,7 @@ const screen = {
     showWaiting(queue);
   },
   wanted: showWanted,
-  visit: showVisit,
+  visit: (visit) => showVisit(visit, (action) => act(openDesk(), action)),
   slip: (slip) => {
     showSlip(slip);
     papers.addSlip(slip);
@@ -67,7 +76,37 @@ const screen = {
     papers.clearNotes();
     clearLookUps();
   },
+  ended: (words, refusal) => {
+    forms.ended(words, refusal);
+    if (refusal !== null) return;
+    listEnded(openDesk(), words);
+    if (["branch", "amend-branch"].includes(words[0])) learnBranches();
+  },
 };
+
+// The open desk, as what is pressed and what is asked of it have it.
+function openDesk() {
+  const { branch, key } = desk();
+  const ask = (words, unknown = () => {}) => askBy(key, leaving.signal, words, newKey(), unknown);
+  return { branch, day: day.now, work, ask, forms, act: (action) => act(openDesk(), action), showList: (question, about) => showList(openDesk(), question, about) };
+}
+
+// The branches as the library names them, for the fields that choose one; where it doesn't tell them, the desk's own.
+async function learnBranches() {
+  const { branch, ask } = openDesk();
+  const answer = await ask(["branches", 0]);
+  const list = answer?.reply && readList("branches", answer.text);
+  if (list) branches.learn(list.rows);
+  if (work === null || desk() === null) return;
+  forms.offer(branches.all.length > 0 ? branches.all : [[branch, branchName(branch)]], branch);
+  offerBranches();
+  showDay();
+}
+
+// The branches that this machine knows, for whoever signs in.
+function offerBranches() {
+  it("branches").replaceChildren(...branches.all.map(([, name]) => new Option(name)));
+}
 
 it("print-receipt").addEventListener("click", () => print("receipt"));
 it("print-slips").addEventListener("click", () => print("slips"));
@@ -102,6 +141,7 @@ function open() {
   focusScan();
   if (work.queue.isStopped) tell(TEXTS.stillStopped, true);
   work.queue.run();
+  learnBranches();
   if (work.service.visit?.receipt.day === null) work.service.lookForDay();
   else day.look();
   return behind;
@@ -118,6 +158,7 @@ async function tryToOpen(key, branch) {
   if (!answer || mine !== leaving) return;
   if (answer.reply?.kind !== "shown") return tell(saidNo(answer.reply ? { strange: 200 } : answer, words), true);
   sessionStorage.setItem(DESK, JSON.stringify({ key, branch }));
+  branches.here = branch;
   it("desk-key").value = "";
   tell("");
   const tabs = await openTabs();
@@ -135,9 +176,10 @@ window.addEventListener("beforeunload", (event) => work?.queue.isEmpty === false
 
 it("sign-in").addEventListener("submit", (event) => {
   event.preventDefault();
-  const [key, branch] = ["desk-key", "branch"].map((id) => it(id).value.trim());
+  const key = it("desk-key").value.trim();
+  const branch = branches.numberOf(it("branch").value.trim());
   if (!isKey(key)) return tell(say(TEXTS.wrongForm, { what: TEXTS.cardKeyForm }), true);
-  if (!isNumber(branch)) return tell(say(TEXTS.wrongForm, { what: TEXTS.numberForm }), true);
+  if (branch === null) return tell(say(TEXTS.wrongForm, { what: TEXTS.branchForm }), true);
   return tryToOpen(key, branch);
 });
 
@@ -160,6 +202,8 @@ it("sign-out").addEventListener("click", () => {
   showOpen(false);
   clearNotes();
   for (const form of document.forms) form.reset();
+  forms.clear();
+  it("branch").value = branches.here;
   showMode("check-out");
   showTab("circulation");
   tell(closing(unknown, unsent), unknown.length + unsent.length > 0);
@@ -175,5 +219,7 @@ const search = new SearchBox({
 listenForScans({ work: () => work, search });
 listenForWords(() => work);
 listenForTabs();
-listenForLists(() => ({ branch: desk().branch, day: day.now, take: (words) => work.words(words), ask: (words, unknown) => askBy(desk().key, leaving.signal, words, newKey(), unknown) }));
+listenForLists(openDesk);
+offerBranches();
+it("branch").value = branches.here;
 if (desk()) open();

@@ -1,8 +1,11 @@
 // The view of lists: what is asked of the desk is shown as a table, goes on where there is more, and can be sorted, printed and saved.
 
-import { isNumber } from "./commands.js";
+import { buttonsOf, renew } from "./action_buttons.js";
+import { isAskedFirst } from "./asked_first.js";
+import { isNumber, onlyAsk } from "./commands.js";
 import { write } from "./isolating.js";
 import { readCopy, readList } from "./questions.js";
+import { actionsOfRow } from "./row_actions.js";
 import { saidNo } from "./saying.js";
 import { cut, nameOf } from "./scans.js";
 import { backToLine, focusScan } from "./scan_line.js";
@@ -12,8 +15,8 @@ import { expiredHold, headOf, tableOf, wordsOfQuestion } from "./tables.js";
 import { TEXTS, branchName, say } from "./texts.js";
 
 // What is shown, what was asked last, and how many lists were asked for: the answer to one that was asked for before the last comes too late. How the rows are sorted, null where they
-// are as they came; and the holds of the list that were unshelved by a button.
-const view = { shown: null, last: null, asked: 0, tillDay: "", sorting: null, unshelved: new Set() };
+// are as they came; and what was done with its rows.
+const view = { shown: null, last: null, asked: 0, tillDay: "", sorting: null, done: new Set() };
 
 // the questions by the panel that shows what they are answered
 const QUESTIONS = {
@@ -31,32 +34,34 @@ function tell(text, isWrong = false) {
   if (isWrong) backToLine();
 }
 
-// A row; with a button for the hold that is to leave the hold shelf, if there is one.
-function rowOf(cells, hold) {
+// A row, with a cell for what can be done with it where there is something.
+function rowOf(cells, actions, what) {
   const row = document.createElement("tr");
   row.append(...cells.map((text) => {
     const cell = write(document.createElement("td"), text);
     if (/^[0-9.-]+$/.test(text)) cell.className = "whole";
     return cell;
   }));
-  if (hold !== null) {
-    const [cell, button] = [document.createElement("td"), document.createElement("button")];
-    Object.assign(button, { type: "button", textContent: TEXTS.unshelve });
-    button.addEventListener("click", () => unshelve([hold]));
-    cell.append(button);
+  if (actions.length > 0) {
+    const cell = document.createElement("td");
+    cell.className = "actions";
+    cell.append(...buttonsOf(actions, what, press));
     row.append(cell);
   }
   return row;
 }
 
-// Has the desk unshelve holds, each once: a button that was pressed is of no further use.
-function unshelve(holds) {
-  const left = holds.filter((hold) => !view.unshelved.has(hold));
-  for (const hold of left) {
-    view.unshelved.add(hold);
-    view.shown.take(["unshelve", String(hold)]);
-  }
+// Does what was pressed; what is sent at once isn't offered a second time.
+function press(action) {
+  if (action.sends && !isAskedFirst(action.sends)) view.done.add(action.sends.join(" "));
+  view.shown.act(action);
   show(view.shown);
+}
+
+// What can still be done with a row.
+function actionsLeft(row) {
+  const { question, day, about, list } = view.shown;
+  return actionsOfRow(question, row, { day, about, head: list.head }).filter(({ sends }) => !sends || !view.done.has(sends.join(" ")));
 }
 
 // The heads of the columns, by each of which the rows are sorted.
@@ -76,14 +81,27 @@ function headsOf(columns) {
     cell.append(button);
     return cell;
   }));
+  if (view.shown.list.rows.some((each) => actionsLeft(each).length > 0)) {
+    const cell = Object.assign(document.createElement("th"), { scope: "col", className: "actions", textContent: TEXTS.actions });
+    row.append(cell);
+  }
   return row;
 }
 
-// The table that is shown, its rows as they are sorted; and of each row the hold that is past its day, where there is one that is still to be unshelved.
-function tableShown({ question, list, day }) {
+// The table that is shown, its rows as they are sorted, each with what it was made of.
+function tableShown({ question, list }) {
   const table = tableOf(question, list);
-  const expired = new Map(table.rows.map((cells, at) => [cells, expiredHold(question, list.rows[at], day)]).filter(([, hold]) => hold !== null && !view.unshelved.has(hold)));
-  return { ...table, rows: view.sorting === null ? table.rows : sorted(table.rows, view.sorting), expired };
+  const made = new Map(table.rows.map((cells, at) => [cells, list.rows[at]]));
+  return { ...table, rows: view.sorting === null ? table.rows : sorted(table.rows, view.sorting), made };
+}
+
+// The holds of the list that are past their day and are still to be unshelved.
+function expiredHolds({ question, list, day }) {
+  return list.rows.map((row) => expiredHold(question, row, day)).filter((hold) => hold !== null && !view.done.has(`unshelve ${hold}`));
+}
+
+function unshelveAll() {
+  for (const hold of expiredHolds(view.shown)) press({ sends: ["unshelve", String(hold)] });
 }
 
 function save() {
@@ -92,14 +110,18 @@ function save() {
   URL.revokeObjectURL(address);
 }
 
+// What a row is about, as a screen reader is told it.
+const whatOf = ({ text, name, day, kind }) => text ?? name ?? day ?? kind ?? "";
+
 function show({ question, list, branch, day }) {
-  const { head, columns, rows, expired } = tableShown({ question, list, day });
+  const { head, columns, rows, made } = tableShown({ question, list });
+  const expired = expiredHolds({ question, list, day });
   write(it("list-head"), head);
   it("list-place").textContent = say(TEXTS.listPlace, { branch: branchName(branch), day: day ?? TEXTS.noDay });
   it("list-columns").replaceChildren(headsOf(columns));
-  it("list-rows").replaceChildren(...rows.map((cells) => rowOf(cells, expired.get(cells) ?? null)));
-  it("unshelve-all").hidden = expired.size < 2;
-  it("unshelve-all").textContent = say(TEXTS.unshelveAll, { count: expired.size });
+  renew(it("list-rows"), rows.map((cells) => rowOf(cells, actionsLeft(made.get(cells)), whatOf(made.get(cells)))));
+  it("unshelve-all").hidden = expired.length < 2;
+  it("unshelve-all").textContent = say(TEXTS.unshelveAll, { count: expired.length });
   it("more").hidden = list.after === null;
   it("list-paper").hidden = false;
   tell(rows.length > 0 ? "" : list.after === null ? TEXTS.noRows : TEXTS.noneYet);
@@ -117,7 +139,7 @@ function read(question, about, text) {
 
 // The panel of what is asked has its answer, and nothing that was asked in another one.
 function moveTo(panel) {
-  it(panel).append(it("sheet"));
+  it(panel).insertBefore(it("sheet"), document.getElementById(`${panel}-forms`));
   if (panelOf(view.shown?.question) !== panel) it("list-paper").hidden = true;
 }
 
@@ -125,7 +147,7 @@ function moveTo(panel) {
 async function ask(desk, question, about, after, before) {
   view.asked += 1;
   view.last = question;
-  if (before.length === 0) Object.assign(view, { sorting: null, unshelved: new Set() });
+  if (before.length === 0) Object.assign(view, { sorting: null, done: new Set() });
   moveTo(panelOf(question));
   const mine = view.asked;
   tell(TEXTS.sending);
@@ -134,7 +156,7 @@ async function ask(desk, question, about, after, before) {
   if (!answer || mine !== view.asked) return;
   const list = answer.reply && read(question, about, answer.text);
   if (!list) return tell(saidNo(answer.reply ? { strange: 200 } : answer, words), true);
-  view.shown = { question, about, branch: desk.branch, day: desk.day, take: desk.take, list: { ...list, rows: [...before, ...list.rows] } };
+  view.shown = { question, about, branch: desk.branch, day: desk.day, act: desk.act, list: { ...list, rows: [...before, ...list.rows] } };
   show(view.shown);
 }
 
@@ -165,7 +187,21 @@ function listenToButtons(desk) {
   it("more").addEventListener("click", () => ask(desk(), view.shown.question, view.shown.about, view.shown.list.after, view.shown.list.rows));
   it("print-list").addEventListener("click", () => print("list"));
   it("save-list").addEventListener("click", save);
-  it("unshelve-all").addEventListener("click", () => unshelve([...tableShown(view.shown).expired.values()]));
+  it("unshelve-all").addEventListener("click", unshelveAll);
+}
+
+// Shows the answer to a question about something.
+export function showList(desk, question, about) {
+  return ask(desk, question, about, 0, []);
+}
+
+// What was done isn't offered a second time; a list that is short, and may be another one then, is asked for again.
+export function listEnded(desk, words) {
+  if (view.shown === null || onlyAsk(words)) return;
+  view.done.add(words.join(" "));
+  const { question, about } = view.shown;
+  if (["copy", "branches", "closed-days", "kinds", "rules"].includes(question)) ask(desk, question, about, 0, []);
+  else show(view.shown);
 }
 
 export function clearLists() {

@@ -6,7 +6,7 @@ import { TEXTS, say } from "./texts.js";
 
 const MOST_BYTES = 120;
 
-function isName(word) {
+export function isName(word) {
   const bytes = new TextEncoder().encode(word);
   return bytes.length >= 1 && bytes.length <= MOST_BYTES && bytes.every((byte) => byte >= 32 && byte !== 127) && !word.startsWith(" ") && !word.endsWith(" ");
 }

@@ -105,13 +105,9 @@ export function stateOf(found, until) {
   return say(hold.from ? TEXTS.waitingFrom : TEXTS.waiting, hold);
 }
 
-// The lines of a patron's page as the desk shows them.
-export function pageLines({ loans, holds }, untils) {
-  return [
-    ...loans.map((loan) => say(TEXTS.loanLine, { ...loan, renewals: renewalsLeft(loan) })),
-    ...holds.map((hold) => say(TEXTS.holdLine, { ...hold, state: stateOf(hold, untils[hold.hold]) })),
-  ];
-}
+// The lines of a patron's page as the desk shows them; `untils` has until when copies stand ready.
+export const loanLine = (loan) => say(TEXTS.loanLine, { ...loan, renewals: renewalsLeft(loan) });
+export const holdLine = (hold, untils) => say(TEXTS.holdLine, { ...hold, state: stateOf(hold, untils[hold.hold]) });
 
 // Words without the card key that a patron gets by them: it is neither shown nor kept.
 export function withoutCardKey(words) {
@@ -138,7 +134,8 @@ export function labelOf(item) {
 }
 
 // What the clerk is asked before an item is sent, and what the buttons say by which it is sent then or isn't; with the name of its patron, where it is known.
-export function confirmingOf({ kind, number, patron, words }, name) {
+export function confirmingOf({ kind, number, patron, words, asked }, name) {
+  if (asked !== undefined) return asked;
   if (kind === "words") return { asked: say(TEXTS.confirmDay, { day: words[1], today: today(), yes: TEXTS.yes }), yes: say(TEXTS.yesBegun, { day: words[1] }), no: TEXTS.goOn };
   const paid = amount(number);
   return { asked: say(TEXTS.confirmAmount, { whom: name ?? say(TEXTS.aPatron, { number: patron }), paid }), yes: say(TEXTS.yesPaid, { paid }), no: TEXTS.dont };

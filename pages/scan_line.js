@@ -112,7 +112,7 @@ function listenToPage(desk) {
   document.addEventListener("pointerdown", () => { lastKey = ""; });
   document.addEventListener("click", (event) => {
     const isSelecting = !document.getSelection().isCollapsed;
-    if (!it("desk").hidden && !isSelecting && !event.target.closest("input, select, button, label")) focusScan();
+    if (!it("desk").hidden && !isSelecting && !event.target.closest("input, select, button, label, summary, [role=option]")) focusScan();
   });
 }
 

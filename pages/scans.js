@@ -45,7 +45,7 @@ export function beginsOtherDay({ kind, words }, day = today()) {
 
 // Whether the clerk is asked before an item is sent.
 export function needsConfirming(item, day = today()) {
-  return !item.isConfirmed && (isLarge(item) || beginsOtherDay(item, day));
+  return !item.isConfirmed && (item.about !== undefined || isLarge(item) || beginsOtherDay(item, day));
 }
 
 // Whether what the clerk typed confirms an item: a day is confirmed by a typed yes alone.

@@ -1,9 +1,11 @@
 // What the desk's page shows.
 
+import { buttonsOf, renew } from "./action_buttons.js";
 import { today } from "./days.js";
 import { write } from "./isolating.js";
 import { receiptHead } from "./receipt.js";
-import { confirmingOf, labelOf, pageLines } from "./saying.js";
+import { actionsOfHold, actionsOfLoan, actionsOfPatron } from "./row_actions.js";
+import { confirmingOf, holdLine, labelOf, loanLine } from "./saying.js";
 import { slipLines } from "./slips.js";
 import { soundAlarm, soundChime } from "./sound.js";
 import { TEXTS, amount, branchName, say } from "./texts.js";
@@ -86,12 +88,23 @@ export function showWaiting(queue) {
   it("throw-away").hidden = !waits;
 }
 
-// Shows the patron at the desk and the receipt; null where nobody was there yet.
-export function showVisit(visit) {
+// The loans and holds of a patron, each with what can be done with it.
+function linesOf({ page, untils }, act) {
+  const lineOf = (text, row, actions) => {
+    const made = line(text);
+    made.append(...buttonsOf(actions, row.text, act));
+    return made;
+  };
+  return [...page.loans.map((loan) => lineOf(loanLine(loan), loan, actionsOfLoan(loan))), ...page.holds.map((hold) => lineOf(holdLine(hold, untils), hold, actionsOfHold(hold, page)))];
+}
+
+// Shows the patron at the desk and the receipt, null where nobody was there yet; `act` does what is pressed.
+export function showVisit(visit, act) {
   const owed = visit && amount(visit.page.owed);
   it("patron").hidden = visit === null;
   write(it("patron-head"), visit ? say(TEXTS.patronHead, { ...visit.page, owed }) : "");
-  it("patron-lines").replaceChildren(...(visit ? pageLines(visit.page, visit.untils) : []).map(line));
+  renew(it("patron-lines"), visit ? linesOf(visit, act) : []);
+  renew(it("patron-actions"), visit ? buttonsOf(actionsOfPatron(visit.page), visit.page.name, act) : []);
   it("visit").hidden = visit === null;
   write(it("receipt-head"), visit ? receiptHead(visit.receipt) : "");
   it("receipt").replaceChildren(...(visit?.receipt.rows ?? []).map(line));

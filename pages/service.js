@@ -1,5 +1,6 @@
 // How a desk serves: words are sent, what they changed is asked for and told, and the patron at the desk has a page and a receipt.
 
+import { knownBy } from "./asked_first.js";
 import { newKey } from "./asking.js";
 import { onlyAsk } from "./commands.js";
 import { readCopy, readList } from "./questions.js";
@@ -10,11 +11,12 @@ import { TEXTS, amount, say } from "./texts.js";
 
 const VISIT = "circ.visit";
 const UNSHELVES = ["unshelve", "unshelve-cancelled"];
-const SILENT = { told() {}, toldMore() {}, noted() {}, visit() {}, slip() {} };
+const SILENT = { told() {}, toldMore() {}, noted() {}, visit() {}, slip() {}, ended() {} };
 
 export class Service {
   // `ask` sends words under a key, says a text as often as no answer comes, and gives the answer, or null once the desk is closed; `screen` shows what is told and
-  // noted, the visit of a patron, and slips; `day` is the library's.
+  // noted, the visit of a patron, and slips; `day` is the library's. It is told too how words ended: by a refusal's number, by 0 for what else
+  // isn't right, and by null where they are done.
   constructor({ branch, ask, screen, storage, day }) {
     Object.assign(this, { branch, ask, screen, storage, day });
     // what is being served, as it is called where it doesn't succeed
@@ -74,6 +76,15 @@ export class Service {
     return this.act(["renew", copy.place.loan], key, { copy });
   }
 
+  // What a question tells of something that is to be done; null where it tells nothing, and that is told.
+  async know(words) {
+    const answer = await this.asked(words, newKey());
+    const copy = answer?.reply && readCopy(answer.text);
+    if (copy || answer?.reply?.kind === "borrower") return knownBy(copy, answer.reply.kind === "borrower" ? answer.reply : null);
+    await this.failed(words, answer?.reply ? { strange: 200 } : answer);
+    return null;
+  }
+
   // The copy that stands on the hold shelf of this branch for a hold that is to leave it; none where it is another branch's.
   async lookForShelved(hold) {
     const answer = await this.asked(["shelf", this.branch, hold - 1], newKey());
@@ -111,6 +122,7 @@ export class Service {
   tellDone(words, { reply, text }, told) {
     this.screen.told(told, false, isSpecial(reply));
     this.screen.noted(shownWords(words), told, ["page", "shown"].includes(reply.kind) ? text.split("\n").slice(1) : []);
+    this.screen.ended(words, null);
   }
 
   // A question after accepted words, of which it was told what they did.
@@ -181,6 +193,7 @@ export class Service {
     if (!answer) return "stop";
     const problem = this.problemOf(words, answer);
     this.stop(problem, shownWords(words));
+    this.screen.ended(words, answer.refusal ?? 0);
     if (answer.refusal) await this.tellWhere({ "check-out": words[2], "check-in": words[1] }[words[0]], problem);
     return answer.fault || answer.strange ? "again" : "stop";
   }

@@ -1,5 +1,6 @@
 // What a desk does with what was taken: one item after another, each by its requests.
 
+import { askedOf, isAskedFirst, questionFirst } from "./asked_first.js";
 import { newKey } from "./asking.js";
 import { onlyAsk } from "./commands.js";
 import { Queue } from "./queue.js";
@@ -75,6 +76,11 @@ export class Work {
     this.take({ kind: "words", words });
   }
 
+  // Takes words of a button or a form, which are asked about first where they can't be undone; `about` is what is known of them.
+  press(words, about = {}) {
+    this.take({ kind: "words", words, ...(isAskedFirst(words) ? { about } : {}) });
+  }
+
   take(item) {
     this.queue.add({ ...item, key: newKey() });
     this.showTurn();
@@ -142,7 +148,14 @@ export class Work {
     this.queue.throwAway();
   }
 
-  confirm(item) {
+  // What is asked about first is looked up then: what isn't there is told, and not asked about.
+  async confirm(item) {
+    if (item.about !== undefined) {
+      const question = questionFirst(item.words, item.about);
+      const known = question === null ? {} : await this.service.know(question);
+      if (known === null) return "told";
+      item.asked = askedOf(item.words, { ...item.about, ...known });
+    }
     const page = this.service.visit?.page;
     this.screen.told(confirmingOf(item, page?.patron === item.patron ? page?.name : undefined).asked, true);
     return "again";

@@ -1,21 +1,26 @@
 // The work of a desk as fast as the fastest hand, over the slowest network: run by tests/gate/pages.py.
 import { deepStrictEqual as same } from "node:assert";
+import { isAskedFirst } from "../../pages/asked_first.js";
 import { askUntilAnswered } from "../../pages/asking.js";
+import { Branches } from "../../pages/branches.js";
 import { once } from "../../pages/clicks.js";
 import { COMMANDS, QUESTIONS } from "../../pages/commands.js";
 import { today } from "../../pages/days.js";
+import { formOf, labelOf as labelOfPart, partOfRefusal, problemOfField, wordsOfForm } from "../../pages/fields.js";
 import { plain } from "../../pages/isolating.js";
 import { LeftBehind, openTabs } from "../../pages/left_behind.js";
 import { LibraryDay } from "../../pages/library_day.js";
 import { Papers } from "../../pages/papers.js";
 import { receiptHead, receiptRow } from "../../pages/receipt.js";
+import { actionsOfHold, actionsOfLoan, actionsOfPatron, actionsOfRow } from "../../pages/row_actions.js";
 import { labelOf } from "../../pages/saying.js";
 import { beginsScan, cut, endsScan, itemOf, needsConfirming, scansIn, wanted } from "../../pages/scans.js";
 import { Search, searchedBy } from "../../pages/search.js";
 import { slipLines } from "../../pages/slips.js";
 import { SignedIn } from "../../pages/signed_in.js";
 import { placeAfter } from "../../pages/tabs.js";
-import { TEXTS } from "../../pages/texts.js";
+import { problemOfWords } from "../../pages/misread.js";
+import { BRANCHES, TEXTS, branchName } from "../../pages/texts.js";
 import { Work } from "../../pages/work.js";
 import { Kept, network } from "../lib/network.mjs";
 
@@ -45,7 +50,7 @@ function turns(acts, asked = {}) {
 // A desk of branch 1 in a tab, and what its screen was told.
 function desk(storage = new Kept(), day = { now: dayOf, look: async () => {}, begun() {} }, kept = () => {}) {
   const leaving = new AbortController();
-  const told = [], noted = [], receipts = [], slips = [], special = [];
+  const told = [], noted = [], receipts = [], slips = [], special = [], ended = [];
   let unknown = 0, waiting = [], wanted = null, shown = null;
   const ask = (words, requestKey, text) => askUntilAnswered(
     { method: "POST", path: "/desk", keyField: "Desk-Key", keyValue: "deskkey00001", requestKey, body: JSON.stringify(words) },
@@ -62,9 +67,10 @@ function desk(storage = new Kept(), day = { now: dayOf, look: async () => {}, be
     slip: (slip) => slips.push(slipLines(slip).map(plain)),
     visit: (visit) => { shown = visit; if (visit) receipts.push([receiptHead(visit.receipt), ...visit.receipt.rows].map(plain)); },
     nobody: () => { noted.length = 0; },
+    ended: (words, refusal) => ended.push([words.join(" "), refusal]),
   };
   const work = new Work({ branch: "1", ask, screen, storage, day, kept });
-  return { work, told, noted, receipts, slips, special, storage, leaving, unknown: () => unknown, waiting: () => waiting, wanted: () => wanted, shown: () => shown };
+  return { work, told, noted, receipts, slips, special, ended, storage, leaving, unknown: () => unknown, waiting: () => waiting, wanted: () => wanted, shown: () => shown };
 }
 
 async function until(holds) {
@@ -815,6 +821,126 @@ search.type(null, "");
 searches[3].done("patron 1 owed 0 name Ann Bell\nend");
 await pause(30);
 is([finds.slice(2), searches.length], [[[[], null, 0]], 4]);
+
+// ---- what can't be undone is asked about with the name and the sum, and is sent once the clerk says so; what is in doubt isn't sent
+const onShelf = "copy 20 home 2 kind 1 price 1200 title 200 Salt Roads\nshelf 2", onLoan = "copy 20 home 2 kind 1 price 1200 title 200 Salt Roads\nloan 2 due 2026-03-09 patron 2 Bo Carr";
+const carr = "patron 2 owed 130 name Bo Carr\nkind 1";
+for (const [words, about, copy, question, asked, yes] of [
+  [["withdraw", "20"], {}, onShelf, "copy 20", "Withdraw Salt Roads, copy 20? It can't be taken back.", "Withdraw"],
+  [["missing", "20"], {}, onShelf, "copy 20", "Report Salt Roads, copy 20, as missing?", "Report as missing"],
+  [["missing", "20"], {}, onLoan, "copy 20", "Report Salt Roads, copy 20, as missing? Bo Carr will owe its price of 12.00, and a fine if it is late.", "Report as missing"],
+  [["waive", "2", "130"], {}, onLoan, "borrower 2", "Waive 1.30 for Bo Carr?", "Waive 1.30"],
+  [["card-key", "2", "newkey000002"], {}, onLoan, "borrower 2", "Give Bo Carr a new card key? The old one will no longer be good.", "Give the new key"],
+  [["cancel-hold", "7"], { patron: 2, text: "Tides" }, onLoan, "borrower 2", "Cancel the hold of Bo Carr on Tides?", "Cancel the hold"],
+  [["unshelve-cancelled", "7"], { name: "Bo Carr", text: "Tides" }, onLoan, null, "Cancel the hold of Bo Carr on Tides, which stands ready?", "Cancel the hold"],
+]) {
+  const before = question === null ? [] : [question];
+  sent = network(turns([reply("ok")], { "copy 20": copy, "copy 1": "copy 1 home 1 kind 1 price 100 title 1 Any\nshelf 1", "borrower 2": carr }));
+  it = desk();
+  it.work.press(words, about);
+  it.work.scan("check-in", "1");
+  await until(() => isQuiet(it));
+  is([bodies(sent), it.work.queue.isStopped, it.told.at(-1), it.waiting()], [before, true, [asked, true], ["copy 1"]]);
+  const { held } = it.work.queue;
+  is([plain(held.asked.asked), plain(held.asked.yes), held.asked.no], [asked, yes, "Don't"]);
+  it.work.sendAgain("");
+  await until(() => isQuiet(it));
+  is(acts(sent), [words.join(" "), "check-in 1 1"]);
+  is(it.ended[0], [words.join(" "), null]);
+  // without it nothing is done
+  sent = network(turns([reply("ok")], { "copy 20": copy, "copy 1": "copy 1 home 1 kind 1 price 100 title 1 Any\nshelf 1", "borrower 2": carr }));
+  it.work.press(words, about);
+  await until(() => isQuiet(it));
+  it.work.sendOn();
+  await until(() => isQuiet(it));
+  is([bodies(sent), it.work.queue.isEmpty], [before, true]);
+}
+// what a copy or a patron can't be looked up for isn't asked about, and is never sent unasked
+for (const [answer, told] of [[refusal(13), "There is no such copy."], [fault(91), /^Fault 91: /], [[5, 403, "<html>"], /status 403/], [reply("end"), /status 200/]]) {
+  sent = network(turns([reply("ok")], { "copy 20": answer }));
+  it = desk();
+  it.work.press(["withdraw", "20"]);
+  await until(() => isQuiet(it));
+  is([bodies(sent), it.work.queue.held, it.work.queue.isStopped, typeof told === "string" ? it.told.at(-1)[0] === told : told.test(it.told.at(-1)[0])], [["copy 20"], null, false, true]);
+  is(it.ended, [["copy 20", answer[1] === 409 ? 13 : 0]]);
+  it.work.queue.sendAgain();
+  await until(() => isQuiet(it));
+  is(bodies(sent), ["copy 20"]);
+}
+// the question is there again in a tab that is loaded anew, and what wasn't asked about yet is unsent
+sent = network(turns([reply("ok")], { "copy 20": onShelf }));
+it = desk();
+it.work.press(["withdraw", "20"]);
+await until(() => isQuiet(it));
+const askedAnew = desk(it.storage);
+askedAnew.work.queue.run();
+is([askedAnew.work.queue.isStopped, plain(askedAnew.work.queue.held.asked.asked), askedAnew.work.end()], [true, "Withdraw Salt Roads, copy 20? It can't be taken back.", { unknown: [], unsent: ["withdraw 20"] }]);
+// what can be undone is sent at once, and how it ended is told
+sent = network([refusal(10), reply("ok")]);
+it = desk();
+for (const branch of ["9", "1"]) it.work.press(["close-day", branch, "2026-12-24"]);
+await until(() => isQuiet(it));
+it.work.queue.sendOn();
+await until(() => isQuiet(it));
+is(it.ended, [["close-day 9 2026-12-24", 10], ["close-day 1 2026-12-24", null]]);
+is(Object.keys(COMMANDS).filter((name) => isAskedFirst([name])), ["card-key", "cancel-hold", "unshelve-cancelled", "missing", "withdraw", "waive"]);
+
+// ---- each row has its actions: their words are commands, their forms have the parts that they fill in, and their questions can be asked
+const rowsOf = {
+  pulls: [{ hold: 1, copy: 11, title: 100, text: "Rivers" }], transits: [{ copy: 11, hold: null, title: 100, text: "Rivers" }], debts: [{ patron: 2, owed: 130, name: "Bo Carr" }],
+  overdue: [{ loan: 1, patron: 2, copy: 11, due: "2026-03-09", late: 7, text: "Rivers" }], shelf: [{ hold: 7, copy: 11, patron: 2, until: "2026-03-07", text: "Rivers" }, { hold: 8, copy: 12, patron: 2, until: "2026-03-09", text: "Rivers" }],
+  "find-patrons": [{ patron: 2, owed: 130, name: "Bo Carr" }], "find-titles": [{ title: 100, text: "Rivers" }], queue: [{ hold: 7, patron: 2, branch: 1, from: null }], "missing-copies": [{ copy: 11, home: 1, title: 100, text: "Rivers" }],
+  copy: ["shelf", "loan", "missing", "withdrawn"].map((to) => ({ copy: 11, home: 1, kind: 1, price: 2500, title: 100, text: "Rivers", place: { to } })), copies: [{ copy: 11, place: { to: "shelf" } }],
+  branches: [{ branch: 1, pickup: 5, week: "ooooooc", name: "Main" }], "closed-days": [{ day: "2026-12-24" }], kinds: [{ kind: 1, loans: 5, holds: 5, debt: 500 }],
+  rules: [{ kind: 1, copyKind: 2, period: 6, renewals: 1, rate: 20, cap: 100, grace: 3 }], account: [{ line: 1, text: null }], loans: [{ loan: 1 }], till: [{ sort: "fines", amount: 0 }],
+};
+const toldOf = ({ text, sends, fills, values, shows, about, serves, mode }) => `${text}: ${sends?.join(" ") ?? (fills && [fills, ...Object.entries(values).map((of) => of.join("="))].join(" ")) ?? (shows && `${shows} ${about}`) ?? `${mode} ${serves}`}`;
+const actionsOf = (question) => rowsOf[question].map((row) => actionsOfRow(question, row, { day: "2026-03-08", about: "1", head: { text: "Rivers" } }));
+is(Object.fromEntries(Object.keys(rowsOf).map((question) => [question, actionsOf(question).map((them) => them.map(toldOf).join("; "))])), {
+  pulls: ["Missing: missing 11"], transits: ["Missing: missing 11"], debts: ["Pay: pay 2; Waive: waive patron=2 amount=1.30; Account: account 2"], overdue: ["Serve: check-out 2; Missing: missing 11"],
+  shelf: ["Unshelve: unshelve 7", "Cancel: unshelve-cancelled 8"], "find-patrons": ["Serve: check-out 2; Account: account 2; Amend: amend-patron patron=2 name=Bo Carr; New card key: card-key patron=2"],
+  "find-titles": ["Copies: copies 100; Who waits: queue 100; Amend: amend-title title=100 text=Rivers; Add a copy: acquire title=100 text=Rivers"], queue: ["Cancel: cancel-hold 7"], "missing-copies": ["Withdraw: withdraw 11"],
+  copy: [["Missing: missing 11", "Withdraw: withdraw 11"], ["Missing: missing 11"], ["Withdraw: withdraw 11"], []].map((them) => [...them, "Amend: amend-copy copy=11 kind=1 price=25.00", "New home: rehome copy=11 branch=1", "Loans: loans 11"].join("; ")),
+  copies: ["Missing: missing 11; Withdraw: withdraw 11; Details: copy 11"], branches: ["Amend: amend-branch branch=1 pickup=5 name=Main; Week: week branch=1 mask=ooooooc; Closed days to come: closed-days 1"],
+  "closed-days": ["Open on this day: open-day 1 2026-12-24"], kinds: ["Amend: kind kind=1 loans=5 holds=5 debt=5.00; Rules: rules 1"],
+  rules: ["Amend: rule kind=1 period=6 renewals=1 copy-kind=2 rate=0.20 cap=1.00; Grace days: grace kind=1 copy-kind=2 days=3"], account: [""], loans: [""], till: [""],
+});
+const everyAction = [...Object.keys(rowsOf).flatMap((question) => actionsOf(question).flat()), ...actionsOfLoan({ loan: 1, renewals: 1 }), ...["waiting", "ready"].flatMap((state) => actionsOfHold({ hold: 7, state, text: "Rivers" }, { name: "Bo Carr" })),
+  ...actionsOfPatron({ patron: 2, owed: 130, name: "Bo Carr" })];
+is(everyAction.filter(({ sends }) => sends && problemOfWords(sends) !== null), []);
+is(everyAction.filter(({ fills, values }) => fills && !Object.keys(values).every((part) => COMMANDS[fills].includes(part))), []);
+is(everyAction.filter(({ shows }) => shows && !QUESTIONS.includes(shows)), []);
+is([actionsOfLoan({ loan: 1, renewals: 0 }), actionsOfHold({ hold: 7, state: "ready", text: "Rivers" }, { name: "Bo" }).map(toldOf), actionsOfPatron({ patron: 2, owed: 0, name: "Bo" }).map(({ text }) => text)],
+  [[], ["Cancel: unshelve-cancelled 7"], ["Account", "Amend", "New card key"]]);
+
+// ---- fields: what they are called, what they must be, and what is sent of them
+is(Object.entries(COMMANDS).filter(([name]) => !QUESTIONS.includes(name)).flatMap(([name, parts]) => parts.filter((part) => part !== "loan" && (!labelOfPart(name, part) || !formOf(part)))), []);
+is([labelOfPart("kind", "kind"), labelOfPart("acquire", "kind"), formOf("branch"), formOf("debt"), formOf("amount")], ["Kind of patrons", "Kind of copies", "a number from 1 to 99", "an amount such as 2.50, up to 10000.00", "an amount such as 2.50"]);
+is([["copy", "0"], ["copy", "9999999"], ["copy", "10000000"], ["copy", "1.5"], ["pickup", "0"], ["pickup", "61"], ["rate", "100.00"], ["rate", "100.01"], ["price", "12"], ["day", "2026-02-29"], ["mask", "ccccccc"], ["mask", "ooooooc"], ["name", "-x"],
+  ["name", "Ann O'Hara"], ["name", ""], ["card-key", "short"]].map(([part, text]) => problemOfField(part, text) === null), [false, true, false, false, true, false, true, false, false, false, false, true, false, true, false, false]);
+is(problemOfField("copy", "x"), "This should be a number from 1 to 9999999.");
+is(wordsOfForm("acquire", { copy: "10", title: "100", kind: "1", home: "2", price: "25,00", text: "Salt Roads" }), ["acquire", "10", "100", "1", "2", "2500", "Salt Roads"]);
+is([["acquire", 20], ["patron", 20], ["branch", 20], ["acquire", 10], ["week", 10], ["week", 22], ["grace", 16], ["waive", 60], ["patron", 17], ["withdraw", 31], ["close-day", 0]].map((of) => partOfRefusal(...of)),
+  ["copy", "patron", "branch", "home", "branch", "mask", "copy-kind", "amount", "kind", null, null]);
+
+// ---- the machine remembers where it stands and the names of the branches, of which those in the texts go before
+const machineOfTown = new Kept();
+const ours = new Branches(machineOfTown);
+is([ours.here, ours.all, ours.numberOf("1"), ours.numberOf("Main")], ["", [], "1", null]);
+ours.here = "2";
+ours.learn([{ branch: 1, name: "Main" }, { branch: 2, name: "Harbour" }]);
+const forget = () => Object.keys(BRANCHES).forEach((branch) => delete BRANCHES[branch]);
+forget();
+const again = new Branches(machineOfTown);
+is([again.here, again.all, again.numberOf("harbour"), again.numberOf("7"), again.numberOf("Quay"), branchName(2)], ["Harbour", [["1", "Main"], ["2", "Harbour"]], "2", "7", null, "Harbour"]);
+again.learn([{ branch: 2, name: "Quay" }]);
+is([again.here, branchName(2)], ["Quay", "Quay"]);
+forget();
+BRANCHES[2] = "Quay 2";
+const named = new Branches(machineOfTown);
+named.learn([{ branch: 1, name: "Main" }, { branch: 2, name: "Quay" }]);
+is(named.all, [["1", "Main"], ["2", "Quay 2"]]);
+forget();
 
 // ---- the arrow keys go round among the tabs, and other keys to none
 is([["ArrowRight", 0], ["ArrowRight", 4], ["ArrowLeft", 4], ["ArrowLeft", 0], ["Home", 3], ["End", 0], ["Enter", 1], ["4", 1], ["toString", 1]].map(([key, place]) => placeAfter(key, place, 5)), [1, 0, 3, 4, 0, 4, null, null, null]);

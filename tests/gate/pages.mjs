@@ -19,7 +19,8 @@ const { expiredHold, headOf, wordsOfQuestion } = tables;
 const said = (reply) => plain(saying.said(reply));
 const saidFully = (...of) => plain(saying.saidFully(...of));
 const whereIs = (place) => plain(saying.whereIs(place));
-const pageLines = (...of) => saying.pageLines(...of).map(plain);
+const pageLinesMarked = ({ loans, holds }, untils) => [...loans.map(saying.loanLine), ...holds.map((hold) => saying.holdLine(hold, untils))];
+const pageLines = (...of) => pageLinesMarked(...of).map(plain);
 function tableOf(...of) {
   const { head, columns, rows } = tables.tableOf(...of);
   return { head: plain(head), columns, rows: rows.map((cells) => cells.map(plain)) };
@@ -277,7 +278,7 @@ is(pageLines(readPage(page.join("\n")), {}).at(-1), "Winter Bees, hold 3, ready 
 // ---- names and titles are marked wherever they stand, and what is marked is nothing else
 const marks = (texts) => texts.flatMap((text) => text.match(/\u0002[^\u0003]*\u0003/g) ?? []).map(plain);
 const bees = "שרה 42";
-is(marks(saying.pageLines(readPage(`patron 1 owed 0 name ${bees}\nloan 1 due 2026-03-09 renewals 0 title 2 ${bees}\nhold 1 at 1 ready title 3 B`), {})), [bees, "B"]);
+is(marks(pageLinesMarked(readPage(`patron 1 owed 0 name ${bees}\nloan 1 due 2026-03-09 renewals 0 title 2 ${bees}\nhold 1 at 1 ready title 3 B`), {})), [bees, "B"]);
 is(marks([saying.said(readReply(`patron 1 owed 0 name ${bees}`)), saying.whereIs({ to: "loan", loan: 1, due: "2026-03-09", name: bees }), saying.shownWords(["amend-title", "1", bees]),
   saying.shownWords(["find-patrons", "0", bees]), saying.shownWords(["check-out", "1", "2", "3"]), saying.shownWords(["patron", "7", "1", "cardkey00007", bees]), saying.saidNo({ refusal: 36 })]), Array(5).fill(bees));
 const cellsOf = (question, text) => tables.tableOf(question, readList(question, text)).rows[0];

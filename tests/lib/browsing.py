@@ -76,8 +76,9 @@ class Page:
         return self.driver.switch_to.active_element.get_attribute("id")
 
     def items(self, name):
-        """The texts of a list."""
-        return self.driver.execute_script("return [...document.getElementById(arguments[0]).children].map((it) => it.innerText.replace(/\\s+/g, ' ').trim())", name)
+        """The texts of a list, without its buttons."""
+        return self.driver.execute_script("""const without = (text, button) => text.slice(0, text.lastIndexOf(button.innerText)) + text.slice(text.lastIndexOf(button.innerText) + button.innerText.length);
+            return [...document.getElementById(arguments[0]).children].map((it) => [...it.querySelectorAll('button')].reverse().reduce(without, it.innerText).replace(/\\s+/g, ' ').trim())""", name)
 
     def stored(self):
         """What the session of the tab keeps."""

@@ -27,8 +27,8 @@ NOTHING = None  # the connection is closed with no answer
 
 class FakeDesk:
     """`answer(what)` gives a time, a status and a body for the words of a desk's request, or for the method and the
-    path of a patron's; `sent` is what came. A time is in seconds, or an event that is waited for. The library's day is
-    asked at any time, so it has an answer of its own and isn't among what came."""
+    path of a patron's; `sent` is what came. A time is in seconds, or an event that is waited for. The library's day and
+    its branches are asked at any time, so they aren't among what came, and the day has an answer of its own."""
 
     def __init__(self, pages):
         self.day, self.pages, self.sent, self.answer = time.strftime("%Y-%m-%d"), pages, [], lambda what: (0.0, 404, json.dumps({"status": 404}))
@@ -68,7 +68,8 @@ class Handler(BaseHTTPRequestHandler):
     def asked(self, what):
         if what == "today":
             return self.tell(200, json.dumps({"reply": f"today {self.fake.day}"}).encode(), "application/json")
-        self.fake.sent.append((what, self.headers["Request-Key"]))
+        if what != "branches 0":
+            self.fake.sent.append((what, self.headers["Request-Key"]))
         answer = self.fake.answer(what)
         if answer is NOTHING:
             self.close_connection = True

@@ -484,7 +484,7 @@ def names(driver, fake):
     for pixels in (320, 900):
         need(f"{pixels} pixels", desk.fits(pixels), True)
         desk.width(pixels)
-        lines = driver.execute_script("return [...document.querySelectorAll('#list-rows td')].map((it) => { const of = document.createRange(); of.selectNodeContents(it); return [it.innerText, new Set([...of.getClientRects()].map((at) => at.top)).size]; })")
+        lines = driver.execute_script("return [...document.querySelectorAll('#list-rows td:not(.actions)')].map((it) => { const of = document.createRange(); of.selectNodeContents(it); return [it.innerText, new Set([...of.getClientRects()].map((at) => at.top)).size]; })")
         need("numbers and days don't break", [it for it, many in lines if many > 1], [long])
         driver.execute_cdp_cmd("Emulation.clearDeviceMetricsOverride", {})
     need("no name is empty", [it for it in desk.names() if not it[1]], [])
@@ -580,7 +580,7 @@ def closed_pages(driver, fake):
     until("all came in", lambda: [it for it in fake.words() if it.startswith("check-in")] == ["check-in 11 1", "check-in 12 1", "check-in 13 1"])
     need("under its key", key in fake.keys(), True)
     until("nothing waits", lambda: not desk.it("queue").is_displayed())
-    need("and nothing is kept", driver.execute_script("return Object.keys(localStorage)"), [])
+    need("and nothing of it is kept", driver.execute_script("return Object.keys(localStorage)"), ["circ.branch"])
 
 
 def keys_anywhere(driver, fake):
@@ -701,7 +701,7 @@ def lists(driver, fake):
     need("upwards", (rows(desk)[0], driver.switch_to.active_element.text), ("101 Title 1 1", "Copy"))
     heads()[0].click()
     need("downwards", (rows(desk)[0], rows(desk)[-1]), ("201 Last 101", "101 Title 1 1"))
-    need("what is said of it", [it.get_attribute("aria-sort") for it in driver.find_elements(By.CSS_SELECTOR, "#list-columns th")], ["descending", None, None])
+    need("what is said of it", [it.get_attribute("aria-sort") for it in driver.find_elements(By.CSS_SELECTOR, "#list-columns th:not(.actions)")], ["descending", None, None])
     driver.execute_script("window.saved = []; const make = URL.createObjectURL; URL.createObjectURL = (blob) => { blob.text().then((text) => window.saved.push(text)); return make.call(URL, blob); }; "
                           "document.addEventListener('click', (event) => event.target.download && window.saved.push(event.target.download))")
     desk.it("save-list").click()
@@ -840,6 +840,120 @@ def searching(driver, fake):
     need("nothing is asked", [it for it in fake.words() if it.endswith(" riv")], ["find-titles 0 riv"])
 
 
+def acting(driver, fake):
+    """What can be done with a row or with what the patron has is done by its button; what can't be undone is asked about first, and a form is filled in and tells what is wrong at its field."""
+    desk = Desk(driver, fake.url, 1)
+    carr, roads = "patron 2 owed 1300 name Bo Carr", "copy 20 home 1 kind 1 price 1200 title 200 Salt Roads"
+    fake.says(answers({"page 2": reply(f"{carr}\nloan 5 due 2026-03-09 renewals 1 title 200 Salt Roads\nhold 7 at 1 waiting title 300 Maps"), "renew 5": reply("loan 5 due 2026-03-16"), "cancel-hold 7": reply("ok"),
+                       "borrower 2": reply(f"{carr}\nkind 3"), "debts 0": reply(f"{carr}\nend"), "account 2": reply(f"{carr}\nend"), "waive 2": reply("owed 0"), "amend-patron": [refusal(17), reply("ok")],
+                       "copy 20": reply(f"{roads}\nloan 5 due 2026-03-09 patron 2 Bo Carr"), "missing 20": reply("fine 0 price 1200"), "loans 20": reply("loan 5 patron 2 made 2026-03-02 due 2026-03-09\nend"),
+                       "acquire": [refusal(20), reply("ok")], "close-day": reply("ok"), "week": reply("ok"), "closed-days 2": reply("day 2026-12-24\nend"), "open-day": reply("ok"),
+                       "branches 0": reply("branch 1 pickup 5 week ooooooc name Main\nbranch 2 pickup 3 week coooooc name Harbour\nend")}))
+    desk.it("sign-out").click()
+    desk.sign_in("1", "deskkey00001")
+    until("the names of the branches", lambda: desk.it("place").text.split(", ")[1:2] == ["Main"])
+
+    def press(name):
+        """Presses the button of this name, as a screen reader hears it."""
+        desk.shown(driver.find_element(By.CSS_SELECTOR, f'[aria-label="{name}"]')).click()
+
+    def field(name):
+        return desk.shown(desk.it(name))
+
+    def fill(command, **values):
+        form = desk.shown(desk.it(f"form-{command}"))
+        if form.get_attribute("open") is None:
+            form.find_element(By.TAG_NAME, "summary").click()
+        for part, text in values.items():
+            field = desk.it(f"{command}-{part.replace('_', '-')}")
+            if field.tag_name == "select":
+                field.send_keys(text)
+            else:
+                field.clear()
+                field.send_keys(text)
+        form.find_element(By.CSS_SELECTOR, "form > button").click()
+
+    def problems(command):
+        return [it.text for it in desk.it(f"form-{command}").find_elements(By.CLASS_NAME, "problem") if it.text]
+    # the patron's panel
+    desk.keys("2", Keys.ENTER)
+    until("the page", lambda: len(desk.items("patron-lines")) == 2)
+    press("Renew: Salt Roads")
+    until("it is renewed at once", lambda: "renew 5" in fake.words())
+    need("the focus", desk.focus(), "scan")
+    press("Cancel: Maps")
+    until("it is asked about", lambda: desk.told() == "Cancel the hold of Bo Carr on Maps?" and desk.it("again").text == "Cancel the hold")
+    need("nothing is sent yet, and a scanner's Enter sends nothing", (desk.focus(), desk.it("send-on").text, "cancel-hold 7" in fake.words()), ("scan", "Don't", False))
+    desk.keys(Keys.ENTER)
+    desk.it("send-on").click()
+    until("it isn't done", lambda: not desk.it("queue").is_displayed())
+    press("Cancel: Maps")
+    until("it is asked about again", lambda: desk.it("again").is_displayed())
+    time.sleep(0.7)
+    desk.it("again").click()
+    until("it is cancelled", lambda: fake.words().count("cancel-hold 7") == 1)
+    until("nothing waits", lambda: not desk.it("queue").is_displayed())
+    # who owes: a form is filled in, and what it says is asked about with name and sum
+    desk.press("debts")
+    until("a row", lambda: rows(desk) == ["2 Bo Carr 13.00"])
+    driver.find_element(By.CSS_SELECTOR, '#list-rows [aria-label="Waive: Bo Carr"]').click()
+    need("the form", (desk.it("patrons").is_displayed(), desk.it("waive-patron").get_attribute("value"), desk.it("waive-amount").get_attribute("value")), (True, "2", "13.00"))
+    fill("waive", amount="2")
+    need("what is wrong is told at its field, which has the focus", (problems("waive"), desk.focus(), desk.it("waive-amount").get_attribute("aria-invalid")), (["This should be an amount such as 2.50."], "waive-amount", "true"))
+    fill("waive", amount="13.00")
+    until("it is asked about", lambda: desk.told() == "Waive 13.00 for Bo Carr?")
+    time.sleep(0.7)
+    desk.it("again").click()
+    until("it is waived", lambda: "waive 2 1300" in fake.words())
+    until("the form is empty again", lambda: desk.it("waive-patron").get_attribute("value") == "")
+    driver.execute_script("scrollTo(0, 0)")
+    driver.find_element(By.CSS_SELECTOR, '#patron-actions [aria-label="Amend: Bo Carr"]').click()
+    until("the kind is known too", lambda: desk.it("amend-patron-kind").get_attribute("value") == "3")
+    fill("amend-patron", name="Bo Özil")
+    until("a refusal stands at its field", lambda: problems("amend-patron") == ["There is no such kind of patron."])
+    need("it is told too, and what was typed stays", (desk.told(), desk.it("amend-patron-name").get_attribute("value")), ("There is no such kind of patron.", "Bo Özil"))
+    fill("amend-patron", kind="1")
+    until("it is amended", lambda: "amend-patron 2 1 Bo Özil" in fake.words())
+    until("nothing is wrong any more", lambda: problems("amend-patron") == [] and desk.it("amend-patron-name").get_attribute("value") == "")
+    # a copy: looked up, reported as missing with what it costs
+    desk.type("looked", "C20")
+    desk.press("copy")
+    until("the copy", lambda: len(rows(desk)) == 1)
+    press("Missing: Salt Roads")
+    until("what it costs", lambda: desk.told() == "Report Salt Roads, copy 20, as missing? Bo Carr will owe its price of 12.00, and a fine if it is late.")
+    time.sleep(0.7)
+    desk.it("again").click()
+    until("it is reported", lambda: "missing 20" in fake.words())
+    until("nothing waits", lambda: not desk.it("queue").is_displayed())
+    fill("acquire", copy="21", title="200", kind="1", home="Harbour", price="12.00", text="Salt Roads")
+    until("a number in use", lambda: problems("acquire") == ["This number is already in use with different details."])
+    fill("acquire", copy="22")
+    until("it is acquired, at a branch that was chosen by its name", lambda: "acquire 22 200 1 2 1200 Salt Roads" in fake.words())
+    # the keeper's
+    desk.tab("settings")
+    fill("close-day", branch="Harbour", day="12242026")
+    until("a day is closed", lambda: "close-day 2 2026-12-24" in fake.words())
+    desk.press("branches")
+    until("the branches", lambda: len(rows(desk)) == 2)
+    driver.find_element(By.CSS_SELECTOR, '#list-rows tr:nth-child(2) [aria-label="Week: Harbour"]').click()
+    desk.it("week-mask").find_elements(By.TAG_NAME, "input")[6].click()
+    fill("week")
+    until("its week", lambda: "week 2 cooooocc" not in fake.words() and "week 2 cooooo" + "o" in fake.words())
+    press("Closed days to come: Harbour")
+    until("its closed days", lambda: rows(desk) == ["2026-12-24"])
+    press("Open on this day: 2026-12-24")
+    until("it is opened", lambda: "open-day 2 2026-12-24" in fake.words())
+    need("no name is empty, and it fits a telephone", ([it for it in desk.names() if not it[1]], desk.fits(320)), ([], True))
+    # the machine remembers its branch by its name
+    desk.it("sign-out").click()
+    need("the forms are closed and empty", (driver.find_elements(By.CSS_SELECTOR, "details[open]"), desk.it("acquire-copy").get_attribute("value")), ([], ""))
+    need("the branch, by its name", desk.it("branch").get_attribute("value"), "Main")
+    desk.type("desk-key", "deskkey00001")
+    desk.type("branch", "harbour")
+    desk.keys(Keys.ENTER)
+    until("another branch, by its name", lambda: desk.it("place").text.split(", ")[1:2] == ["Harbour"])
+
+
 def past_their_day(driver, fake):
     """Ready holds that are past their day have a button each, and one for all; each is unshelved once."""
     desk = Desk(driver, fake.url, 1)
@@ -848,14 +962,15 @@ def past_their_day(driver, fake):
     fake.says(answers({"shelf 1 0": reply("\n".join([*lines, "end"])), "unshelve": reply("shelf 1")}))
     desk.press("shelf")
     until("the hold shelf", lambda: len(rows(desk)) == 4)
-    need("who is past", [it.endswith("Unshelve") for it in rows(desk)], [True, False, True, True])
+    buttons = lambda: [[it.text for it in row.find_elements(By.TAG_NAME, "button")] for row in driver.find_elements(By.CSS_SELECTOR, "#list-rows tr")]
+    need("who is past", buttons(), [["Unshelve"], ["Cancel"], ["Unshelve"], ["Unshelve"]])
     need("all", (desk.it("unshelve-all").is_displayed(), desk.it("unshelve-all").text), (True, "Unshelve all 3 past their day"))
-    driver.find_elements(By.CSS_SELECTOR, "#list-rows button")[1].click()
+    driver.find_elements(By.CSS_SELECTOR, "#list-rows button")[2].click()
     until("it is unshelved", lambda: "unshelve 3" in fake.words())
-    need("its button is gone", [it.endswith("Unshelve") for it in rows(desk)], [True, False, False, True])
+    need("its button is gone", buttons(), [["Unshelve"], ["Cancel"], [], ["Unshelve"]])
     desk.it("unshelve-all").click()
     until("so are the others", lambda: [it for it in fake.words() if it.startswith("unshelve")] == ["unshelve 3", "unshelve 1", "unshelve 4"])
-    need("no button is left", (driver.find_elements(By.CSS_SELECTOR, "#list-rows button"), desk.it("unshelve-all").is_displayed()), ([], False))
+    need("no button of these is left", (buttons(), desk.it("unshelve-all").is_displayed()), ([[], ["Cancel"], [], []], False))
 
 
 def slips(driver, fake):
@@ -919,7 +1034,7 @@ def another_day(driver, fake):
     need("320 pixels", desk.fits(320), True)
 
 
-PARTS = (tabs, searching, lists, past_their_day, slips, fast_scans, refused_scans, unread_answers, receipts, signed_out, telephone, opening, scanners, hands_at_the_desk, another_day, loaded_anew, nobody_stays, panel_of_now, library_day, names, next_patron, closed_pages, keys_anywhere, misread)
+PARTS = (tabs, searching, acting, lists, past_their_day, slips, fast_scans, refused_scans, unread_answers, receipts, signed_out, telephone, opening, scanners, hands_at_the_desk, another_day, loaded_anew, nobody_stays, panel_of_now, library_day, names, next_patron, closed_pages, keys_anywhere, misread)
 
 
 def main():

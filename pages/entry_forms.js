@@ -1,0 +1,175 @@
+// The forms by which something is entered: one for each command, with a label and a hint at each field, and what is wrong at the field that it is about.
+
+import { newKey } from "./asking.js";
+import { COMMANDS, KINDS } from "./commands.js";
+import { formOf, isBranch, labelOf, partOfRefusal, problemOfField, wordsOfForm } from "./fields.js";
+import { it } from "./screen.js";
+import { showTab } from "./tabs.js";
+import { MEANINGS, TEXTS } from "./texts.js";
+
+// the forms of each panel by their commands, with what each is called
+const FORMS = {
+  patrons: { "patron": TEXTS.enrol, "amend-patron": TEXTS.amendPatron, "card-key": TEXTS.giveCardKey, "waive": TEXTS.waiveOwed },
+  catalogue: {
+    "acquire": TEXTS.acquireCopy, "amend-title": TEXTS.amendTitle, "amend-copy": TEXTS.amendCopy, "rehome": TEXTS.rehomeCopy, "missing": TEXTS.reportMissing, "withdraw": TEXTS.withdrawCopy,
+  },
+  settings: {
+    "close-day": TEXTS.closeDay, "open-day": TEXTS.openDay, "week": TEXTS.setWeek, "amend-branch": TEXTS.amendBranch, "branch": TEXTS.makeBranch, "kind": TEXTS.setKind, "rule": TEXTS.setRule, "grace": TEXTS.setGrace,
+  },
+};
+
+export const panelOfForm = (command) => Object.keys(FORMS).find((panel) => Object.hasOwn(FORMS[panel], command));
+
+function element(name, properties, ...children) {
+  const made = Object.assign(document.createElement(name), properties);
+  made.append(...children);
+  return made;
+}
+
+// The seven days of a week, each open or not.
+function weekOf(id) {
+  const boxes = TEXTS.weekdays.split(" ").map((name) => element("label", {}, element("input", { type: "checkbox", checked: true }), ` ${name}`));
+  return element("span", { id, className: "week", role: "group" }, ...boxes);
+}
+
+// What a field is entered into.
+function controlOf(command, part, id) {
+  if (KINDS[part] === "Mask") return weekOf(id);
+  if (isBranch(part) && command !== "branch") return element("select", { id });
+  const isFree = ["Name", "CardKey"].includes(KINDS[part]);
+  return element("input", { id, type: KINDS[part] === "Day" ? "date" : "text", inputMode: isFree ? "text" : KINDS[part] === "Amount" ? "decimal" : "numeric", spellcheck: false, autocomplete: "off" });
+}
+
+class Field {
+  constructor(command, part) {
+    const id = `${command}-${part}`;
+    this.part = part;
+    this.control = controlOf(command, part, id);
+    this.problem = element("span", { id: `${id}-problem`, className: "problem" });
+    const hint = element("span", { id: `${id}-hint`, className: "hint", textContent: formOf(part) });
+    const label = element("label", { id: `${id}-label`, htmlFor: id, textContent: labelOf(command, part) });
+    const makes = KINDS[part] === "CardKey" ? [element("button", { type: "button", textContent: TEXTS.makeKey })] : [];
+    for (const button of makes) button.addEventListener("click", () => { this.value = newKey().slice(0, 12); });
+    this.control.setAttribute("aria-labelledby", label.id);
+    this.control.setAttribute("aria-describedby", `${this.problem.id} ${hint.id}`);
+    this.place = element("div", { className: "field" }, label, this.control, ...makes, ...(isBranch(part) || KINDS[part] === "Mask" ? [] : [hint]), this.problem);
+  }
+
+  get boxes() {
+    return [...this.control.querySelectorAll("input")];
+  }
+
+  get value() {
+    return KINDS[this.part] === "Mask" ? this.boxes.map(({ checked }) => (checked ? "o" : "c")).join("") : this.control.value.trim();
+  }
+
+  set value(text) {
+    if (KINDS[this.part] === "Mask") this.boxes.forEach((box, at) => { box.checked = (text || "ooooooo")[at] === "o"; });
+    else this.control.value = text;
+  }
+
+  // Tells what is wrong; null where nothing is.
+  tell(problem) {
+    this.problem.textContent = problem ?? "";
+    this.control.setAttribute("aria-invalid", String(problem !== null));
+  }
+
+  focus() {
+    (this.boxes[0] ?? this.control).focus();
+  }
+
+  // The branches that can be chosen, of which the one that is chosen stays.
+  offer(branches, here) {
+    const chosen = this.control.value || here;
+    this.control.replaceChildren(...branches.map(([number, name]) => new Option(name, number, number === here, number === chosen)));
+  }
+}
+
+class EntryForm {
+  constructor(command, name, take) {
+    this.command = command;
+    this.fields = COMMANDS[command].map((part) => new Field(command, part));
+    const form = element("form", { noValidate: true, autocomplete: "off" }, ...this.fields.map(({ place }) => place), element("button", { textContent: name }));
+    form.addEventListener("submit", (event) => {
+      event.preventDefault();
+      if (this.isRight()) take(this.words());
+    });
+    this.place = element("details", { id: `form-${command}` }, element("summary", { textContent: name }), form);
+  }
+
+  words() {
+    return wordsOfForm(this.command, Object.fromEntries(this.fields.map(({ part, value }) => [part, value])));
+  }
+
+  // Whether each field has its form; the first one that hasn't gets the focus.
+  isRight() {
+    const wrong = this.fields.filter((field) => {
+      const problem = problemOfField(field.part, field.value);
+      field.tell(problem);
+      return problem !== null;
+    });
+    wrong[0]?.focus();
+    return wrong.length === 0;
+  }
+
+  fill(values) {
+    this.place.open = true;
+    for (const field of this.fields) {
+      field.value = String(values[field.part] ?? field.value);
+      field.tell(null);
+    }
+    (this.fields.find(({ part }) => !(part in values)) ?? this.fields[0]).focus();
+  }
+
+  clear() {
+    for (const field of this.fields) {
+      if (!isBranch(field.part)) field.value = "";
+      field.tell(null);
+    }
+  }
+
+  // What became of words: where they are still those of the form it is cleared once they are done, and else the field that a refusal is about tells it.
+  ended(words, refusal) {
+    if (words.join("\n") !== this.words().join("\n")) return;
+    if (refusal === null) return this.clear();
+    const part = partOfRefusal(this.command, refusal);
+    this.fields.find((field) => field.part === part)?.tell(MEANINGS[refusal]);
+  }
+}
+
+export class EntryForms {
+  // `take` takes the words of a form that is filled in.
+  constructor(take) {
+    this.forms = {};
+    for (const [panel, names] of Object.entries(FORMS)) {
+      for (const [command, name] of Object.entries(names)) {
+        this.forms[command] = new EntryForm(command, name, take);
+        it(`${panel}-forms`).append(this.forms[command].place);
+      }
+    }
+  }
+
+  // Opens the form of a command, with what is known already.
+  fill(command, values) {
+    showTab(panelOfForm(command));
+    this.forms[command].fill(values);
+  }
+
+  ended(words, refusal) {
+    this.forms[words[0]]?.ended(words, refusal);
+  }
+
+  // Offers branches, first of all the one that is here.
+  offer(branches, here) {
+    for (const { fields } of Object.values(this.forms)) {
+      for (const field of fields) if (field.control.tagName === "SELECT") field.offer(branches, here);
+    }
+  }
+
+  clear() {
+    for (const form of Object.values(this.forms)) {
+      form.clear();
+      form.place.open = false;
+    }
+  }
+}
