@@ -16,10 +16,11 @@ function serve(work, patron, mode) {
 }
 
 // Opens a form with what is known; of a patron who is amended the kind is asked for too.
-async function fill({ ask, forms }, command, values) {
+async function fill({ work, ask, forms }, command, values) {
+  const { expected } = work;
   const answer = command === "amend-patron" ? await ask(["borrower", String(values.patron)]) : null;
   const kind = answer?.reply?.kind === "borrower" ? { kind: answer.reply.patronKind } : {};
-  forms.fill(command, { ...values, ...kind });
+  if (work.expected === expected) forms.fill(command, { ...values, ...kind });
 }
 
 // `desk` has the work of the open desk, how it asks, its forms, and how it shows a list.

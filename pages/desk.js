@@ -75,6 +75,7 @@ const screen = {
     clearNotes();
     papers.clearNotes();
     clearLookUps();
+    forms.clearPatron();
   },
   ended: (words, refusal) => {
     forms.ended(words, refusal);

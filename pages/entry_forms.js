@@ -166,10 +166,15 @@ export class EntryForms {
     }
   }
 
-  clear() {
-    for (const form of Object.values(this.forms)) {
-      form.clear();
-      form.place.open = false;
+  clear(commands = Object.keys(this.forms)) {
+    for (const command of commands) {
+      this.forms[command].clear();
+      this.forms[command].place.open = false;
     }
+  }
+
+  // Clears what is filled in of a patron who has left; who is being enrolled isn't there yet.
+  clearPatron() {
+    this.clear(["amend-patron", "card-key", "waive"]);
   }
 }

@@ -11,7 +11,8 @@ import { TEXTS } from "./texts.js";
 import { Turn } from "./turn.js";
 
 const onlyAsks = (item) => item.kind === "patron" || (item.kind === "words" && onlyAsk(item.words));
-const keptForm = (item) => (item.kind === "words" ? { ...item, words: withoutCardKey(item.words) } : item);
+// What is asked about first is looked up anew wherever it is handled, and no name of it is kept.
+const keptForm = ({ asked, ...item }) => (item.kind === "words" ? { ...item, words: withoutCardKey(item.words) } : item);
 
 // The patron for whom an item was scanned; null where it is nobody's, or words.
 const patronOfItem = (item) => (item?.kind === "patron" ? item.number : item?.patron ?? null);

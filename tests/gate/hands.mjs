@@ -867,6 +867,19 @@ for (const [answer, told] of [[refusal(13), "There is no such copy."], [fault(91
   await until(() => isQuiet(it));
   is(bodies(sent), ["copy 20"]);
 }
+// no name is kept on the machine, and where the tab is closed it is asked about anew
+let keptOfIt = [];
+sent = network(turns([reply("ok")], { "borrower 2": carr }));
+it = desk(new Kept(), undefined, (items) => { keptOfIt = items; });
+it.work.press(["waive", "2", "130"]);
+await until(() => isQuiet(it));
+is([it.work.queue.isStopped, JSON.stringify(keptOfIt).includes("Bo Carr"), keptOfIt.length], [true, false, 1]);
+it = desk();
+it.work.queue.takeOver(keptOfIt);
+sent = network(turns([reply("ok")], { "borrower 2": carr }));
+it.work.sendOn();
+await until(() => isQuiet(it));
+is([bodies(sent), it.told.at(-1)[0]], [["borrower 2"], "Waive 1.30 for Bo Carr?"]);
 // the question is there again in a tab that is loaded anew, and what wasn't asked about yet is unsent
 sent = network(turns([reply("ok")], { "copy 20": onShelf }));
 it = desk();
