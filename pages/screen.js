@@ -8,7 +8,7 @@ import { actionsOfHold, actionsOfLoan, actionsOfPatron } from "./row_actions.js"
 import { confirmingOf, holdLine, labelOf, loanLine } from "./saying.js";
 import { slipLines } from "./slips.js";
 import { soundAlarm, soundChime } from "./sound.js";
-import { TEXTS, amount, branchName, say } from "./texts.js";
+import { TEXTS, TOWN, amount, branchName, say } from "./texts.js";
 import { beginsOtherDay, needsConfirming, wanted } from "./scans.js";
 
 export const MOST_NOTES = 20;
@@ -61,7 +61,7 @@ export function clearNotes() {
 // Shows where the desk is, and the library's day, loudly where it isn't that of this machine; nothing where the desk is closed.
 export function showHead(branch, day) {
   const isOther = branch !== null && day !== null && day !== today();
-  it("place").textContent = branch === null ? "" : say(TEXTS.deskHead, { town: TEXTS.town, branch: branchName(branch), day: day ?? TEXTS.noDay });
+  it("place").textContent = branch === null ? "" : say(TEXTS.deskHead, { town: TOWN, branch: branchName(branch), day: day ?? TEXTS.noDay });
   it("place").classList.toggle("other-day", isOther);
   it("other-day").textContent = isOther ? say(TEXTS.otherDay, { day, today: today() }) : "";
 }

@@ -1,6 +1,7 @@
 import { marked } from "./isolating.js";
+import * as german from "./texts_de.js";
 
-// Every text that the pages show, so that a town can have them in its own language. {braces} are filled in.
+// Every text that the pages show, so that a town can have them in its own language. {braces} are filled in. Each other language has a file of its own with the same keys.
 // There is a meaning for each number that the program tells, and what a word must be is as the program says it: tests/gate/pages.py compares them.
 
 export const MEANINGS = {
@@ -46,14 +47,18 @@ export const MEANINGS = {
   93: "The library can't be read: it is missing, damaged or of another version.",
 };
 
+// The name of the library.
+export const TOWN = "Town library";
+
 // The names of the town's branches by their numbers, as 1: "Main", 2: "Harbour"; one that has none here is shown by its number.
 export const BRANCHES = {};
 
 // What stands before the number on cards and on copies; it is cut off. Letters, so that no number begins with it; empty where there is none.
 export const PREFIXES = { patron: "P", copy: "C" };
 
-// The language of these texts, as HTML names it.
+// The language of these texts, as HTML names it, and the others.
 export const LANGUAGE = "en";
+const OTHERS = { de: german };
 
 export const TEXTS = {
   patronTitle: "My library card",
@@ -89,7 +94,6 @@ export const TEXTS = {
   receiptHeld: "{text}, hold {hold}, to be picked up at {branch}",
   receiptHeldFrom: "{text}, hold {hold} from {from}, to be picked up at {branch}",
   printReceipt: "Print the receipt",
-  town: "Town library",
   deskHead: "{town}, {branch}, {day}",
   noDay: "…",
   otherDay: "The library's day is {day}, but this machine's date is {today}.",
@@ -399,6 +403,15 @@ export const TEXTS = {
   wordsFollow: "{command} {parts}",
 };
 
+// The language of the pages: the first one that a browser asks for and that they have.
+export function languageOf(asked) {
+  return asked.map((language) => language.split("-")[0].toLowerCase()).find((language) => language === LANGUAGE || Object.hasOwn(OTHERS, language)) ?? LANGUAGE;
+}
+
+const chosen = languageOf(globalThis.document ? navigator.languages : []);
+Object.assign(MEANINGS, OTHERS[chosen]?.MEANINGS);
+Object.assign(TEXTS, OTHERS[chosen]?.TEXTS);
+
 // what is filled in that somebody was free to write: names, titles, what is searched for and words that are misread
 const FREE = ["name", "text", "whom", "sought", "word"];
 
@@ -414,7 +427,7 @@ export function branchName(branch, names = BRANCHES) {
 
 // Puts the texts that the page names into their places.
 export function fillIn(page = document) {
-  page.documentElement.lang = LANGUAGE;
+  page.documentElement.lang = chosen;
   for (const place of page.querySelectorAll("[data-text]")) place.textContent = TEXTS[place.dataset.text];
 }
 

@@ -10,7 +10,8 @@ import { problemOfLine, problemOfWords } from "../../pages/misread.js";
 import * as saying from "../../pages/saying.js";
 import * as tables from "../../pages/tables.js";
 import { csvOf, fileNameOf, sorted, sortedNext } from "../../pages/sheet.js";
-import { TEXTS, amount, branchName, say } from "../../pages/texts.js";
+import { LANGUAGE, MEANINGS, TEXTS, amount, branchName, languageOf, say } from "../../pages/texts.js";
+import * as german from "../../pages/texts_de.js";
 import { Kept, network } from "../lib/network.mjs";
 
 // what is said and shown, without the marks of names
@@ -361,6 +362,20 @@ const long120 = "ö".repeat(60);
 is(["begin-day 2028-02-29", `amend-title 1 ${long120}`, "week 1 ccccccc", "pay 1 42949672.95", 'patron 1 1 cardkey00001 "Ann O\'Hara"', "today"].map(problemOfLine), Array(6).fill(null));
 is([problemOfLine(`amend-title 1 ${long120}x`) === null, problemOfLine("amend-title 1 'a\u0007b'") === null], [false, false]);
 is(["2000-01-01", "2199-12-31", "1999-12-31", "2200-01-01", "2026-3-1", "2026-13-01", "2026-04-31", ""].map(isDay), [true, true, false, false, false, false, false, false]);
+
+// ---- each other language has the same keys, fills in the same, and has a text of its own for each
+const filledIn = (texts) => Object.fromEntries(Object.entries(texts).map(([key, text]) => [key, [...text.matchAll(/\{(\w+)\}/g)].map(([, part]) => part).sort()]));
+const alike = ["colName", "partName", "receiptHead", "deskHead", "noDay", "refused", "refusedCopy", "ofTitle", "ofLabel", "listPlace", "actionOf", "wordsFollow"];
+for (const language of [german]) {
+  is([Object.keys(language.TEXTS), Object.keys(language.MEANINGS)], [Object.keys(TEXTS), Object.keys(MEANINGS)]);
+  is([filledIn(language.TEXTS), filledIn(language.MEANINGS)], [filledIn(TEXTS), filledIn(MEANINGS)]);
+  is(Object.keys(TEXTS).filter((key) => language.TEXTS[key] === TEXTS[key]).sort(), alike.sort());
+  is(Object.entries({ ...language.TEXTS, ...language.MEANINGS }).filter(([, text]) => text === "" || text.trim() !== text || /[\u0000-\u001f]/.test(text)), []);
+  is(Object.values(language.MEANINGS).filter((text) => !/^[A-Z].*\.$/.test(text) || text.length > 90), []);
+  is([language.TEXTS, TEXTS].map(({ weekdays }) => weekdays.split(" ").length), [7, 7]);
+}
+is([["de-AT", "en"], ["fr", "de"], ["en-GB", "de"], ["fr"], [], ["toString"], ["DE"]].map(languageOf), ["de", "de", "en", "en", "en", "en", "de"]);
+is(LANGUAGE, "en");
 
 // ---- what a patron asks for
 is(holdBody("100", "1", ""), '{"branch":1,"title":100}');

@@ -958,6 +958,28 @@ def acting(driver, fake):
     until("another branch, by its name", lambda: desk.it("place").text.split(", ")[1:2] == ["Harbour"])
 
 
+def german(driver, fake):
+    """A browser that asks for German has the pages in German, and their language is told."""
+    agent = driver.execute_script("return navigator.userAgent")
+    driver.execute_cdp_cmd("Network.setUserAgentOverride", {"userAgent": agent, "acceptLanguage": "de-AT,de,en"})
+    try:
+        desk = Page(driver, f"{fake.url}/pages/desk.html", "Ausleihtheke")
+        desk.type("desk-key", "deskkey00001")
+        desk.type("branch", "1")
+        desk.keys(Keys.ENTER)
+        until("the desk is open", lambda: desk.it("desk").is_displayed())
+        need("its language", driver.execute_script("return document.documentElement.lang"), "de")
+        desk.keys("P4", Keys.ENTER)
+        until("what is told", lambda: desk.told() == "Person 4, Di Eck: 0 ausgeliehen, 0 vorgemerkt, schuldet 0.00.")
+        need("the tabs", [it.text for it in driver.find_elements(By.CSS_SELECTOR, "[role=tab]")], ["Ausleihe", "Listen", "Person", "Katalog", "Einstellungen"])
+        need("no name is empty, and it fits a telephone", ([it for it in desk.names() if not it[1]], desk.fits(320)), ([], True))
+        desk.it("sign-out").click()
+        page = Page(driver, f"{fake.url}/pages/patron.html", "Mein Bibliotheksausweis")
+        need("the patron's page", (page.it("sign-in").text.split("\n")[0], driver.execute_script("return document.documentElement.lang")), ("Ausweisnummer", "de"))
+    finally:
+        driver.execute_cdp_cmd("Network.setUserAgentOverride", {"userAgent": agent, "acceptLanguage": "en-US,en"})
+
+
 def past_their_day(driver, fake):
     """Ready holds that are past their day have a button each, and one for all; each is unshelved once."""
     desk = Desk(driver, fake.url, 1)
@@ -1038,7 +1060,7 @@ def another_day(driver, fake):
     need("320 pixels", desk.fits(320), True)
 
 
-PARTS = (tabs, searching, acting, lists, past_their_day, slips, fast_scans, refused_scans, unread_answers, receipts, signed_out, telephone, opening, scanners, hands_at_the_desk, another_day, loaded_anew, nobody_stays, panel_of_now, library_day, names, next_patron, closed_pages, keys_anywhere, misread)
+PARTS = (tabs, searching, acting, german, lists, past_their_day, slips, fast_scans, refused_scans, unread_answers, receipts, signed_out, telephone, opening, scanners, hands_at_the_desk, another_day, loaded_anew, nobody_stays, panel_of_now, library_day, names, next_patron, closed_pages, keys_anywhere, misread)
 
 
 def main():
