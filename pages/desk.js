@@ -8,9 +8,9 @@ import { clearLists, clearLookUps, listEnded, listenForLists, showList, showTill
 import { EntryForms } from "./entry_forms.js";
 import { LeftBehind, openTabs } from "./left_behind.js";
 import { LibraryDay } from "./library_day.js";
+import { lookFirst } from "./opening.js";
 import { Papers } from "./papers.js";
 import { readList } from "./questions.js";
-import { saidNo } from "./saying.js";
 import { backToLine, focusScan, listenForScans } from "./scan_line.js";
 import { wanted } from "./scans.js";
 import { MOST_NOTES, clearNotes, it, mode, note, print, putSlipsAway, showHead, showMode, showOpen, showSlip, showVisit, showWaiting, showWanted, tell, tellQuietly } from "./screen.js";
@@ -92,13 +92,17 @@ function openDesk() {
   return { branch, day: day.now, work, ask, forms, act: (action) => act(openDesk(), action), showList: (question, about) => showList(openDesk(), question, about) };
 }
 
-// The branches as the library names them, for the fields that choose one; where it doesn't tell them, the desk's own.
+// Asks for the branches as the library names them.
 async function learnBranches() {
-  const { branch, ask } = openDesk();
-  const answer = await ask(["branches", 0]);
+  const answer = await openDesk().ask(["branches", 0]);
   const list = answer?.reply && readList("branches", answer.text);
-  if (list) branches.learn(list.rows);
-  if (work === null || desk() === null) return;
+  if (desk() !== null) showBranches(list ? list.rows : null);
+}
+
+// Shows the branches by their names, for the fields that choose one; where the library doesn't tell them, the desk's own.
+function showBranches(rows) {
+  const { branch } = desk();
+  if (rows !== null) branches.learn(rows);
   forms.offer(branches.all.length > 0 ? branches.all : [[branch, branchName(branch)]], branch);
   offerBranches();
   showDay();
@@ -142,28 +146,28 @@ function open() {
   focusScan();
   if (work.queue.isStopped) tell(TEXTS.stillStopped, true);
   work.queue.run();
-  learnBranches();
   if (work.service.visit?.receipt.day === null) work.service.lookForDay();
   else day.look();
   return behind;
 }
 
-// Opens the desk once its key and its branch are found right, by a question that wants both.
+// Opens the desk once its key and its branch are found right.
 async function tryToOpen(key, branch) {
   leaving?.abort();
   const mine = new AbortController();
   leaving = mine;
   tell(TEXTS.sending);
-  const words = ["shelf", branch, "0"];
-  const answer = await askBy(key, mine.signal, words, newKey(), () => tellQuietly(TEXTS.unknownOpening, true));
-  if (!answer || mine !== leaving) return;
-  if (answer.reply?.kind !== "shown") return tell(saidNo(answer.reply ? { strange: 200 } : answer, words), true);
+  const found = await lookFirst((words) => askBy(key, mine.signal, words, newKey(), () => tellQuietly(TEXTS.unknownOpening, true)), branch);
+  if (found === null || mine !== leaving) return;
+  if (found.problem !== null) return tell(found.problem, true);
   sessionStorage.setItem(DESK, JSON.stringify({ key, branch }));
   branches.here = branch;
   it("desk-key").value = "";
   tell("");
   const tabs = await openTabs();
-  if (mine === leaving) takeOver(open().take(tabs));
+  if (mine !== leaving) return;
+  takeOver(open().take(tabs));
+  showBranches(found.rows);
 }
 
 // Puts what waited in a tab that is closed before the clerk, who says whether it is sent.
@@ -223,4 +227,7 @@ listenForTabs();
 listenForLists(openDesk);
 offerBranches();
 it("branch").value = branches.here;
-if (desk()) open();
+if (desk()) {
+  open();
+  learnBranches();
+}

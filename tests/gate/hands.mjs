@@ -6,6 +6,8 @@ import { Branches } from "../../pages/branches.js";
 import { once } from "../../pages/clicks.js";
 import { COMMANDS, QUESTIONS } from "../../pages/commands.js";
 import { today } from "../../pages/days.js";
+import { lookFirst } from "../../pages/opening.js";
+import { readReply } from "../../pages/replies.js";
 import { formOf, labelOf as labelOfPart, partOfRefusal, problemOfField, wordsOfForm } from "../../pages/fields.js";
 import { plain } from "../../pages/isolating.js";
 import { LeftBehind, openTabs } from "../../pages/left_behind.js";
@@ -954,6 +956,20 @@ const named = new Branches(machineOfTown);
 named.learn([{ branch: 1, name: "Main" }, { branch: 2, name: "Quay" }]);
 is(named.all, [["1", "Main"], ["2", "Quay 2"]]);
 forget();
+
+// ---- a desk opens by questions of which a clerk who lends alone may ask the first, and by the branches where they may be asked for
+const mayAsk = (text) => ({ reply: readReply(text), text });
+const todays = mayAsk("today 2026-03-02"), towns = mayAsk("branch 1 pickup 5 week ooooooc name Main\nbranch 20 pickup 3 week coooooc name Harbour\nend");
+for (const [day, branches, branch, problem, rows, words] of [
+  [todays, towns, "20", null, 2, 2], [todays, towns, "2", "There is no such branch.", 2, 2], [todays, { refusal: 81 }, "2", null, null, 2], [{ refusal: 81 }, towns, "1", "The key is wrong, or may not do this.", null, 1],
+  [mayAsk("ok"), towns, "1", "This page can't read the answer (status 200). It is not known whether the request was carried out.", null, 1], [todays, mayAsk("ok"), "1", "This page can't read the answer (status 200). It is not known whether the request was carried out.", null, 2],
+  [{ fault: 92 }, towns, "1", "Fault 92: The desk is closed. Send it again later; it will be done only once.", null, 1],
+]) {
+  const askedOfDesk = [];
+  const found = await lookFirst(async (them) => { askedOfDesk.push(them); return them[0] === "today" ? day : branches; }, branch);
+  is([found.problem, found.rows?.length ?? null, askedOfDesk], [problem, rows, [["today"], ["branches", "0"]].slice(0, words)]);
+}
+is([await lookFirst(async () => null, "1"), await lookFirst(async ([name]) => (name === "today" ? todays : null), "1")], [null, null]);
 
 // ---- the arrow keys go round among the tabs, and other keys to none
 is([["ArrowRight", 0], ["ArrowRight", 4], ["ArrowLeft", 4], ["ArrowLeft", 0], ["Home", 3], ["End", 0], ["Enter", 1], ["4", 1], ["toString", 1]].map(([key, place]) => placeAfter(key, place, 5)), [1, 0, 3, 4, 0, 4, null, null, null]);

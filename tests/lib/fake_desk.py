@@ -22,16 +22,17 @@ def fault(number, seconds=0.0):
     return seconds, 503, json.dumps({"fault": number})
 
 
+UNKNOWN = (0.0, 404, json.dumps({"status": 404}))
 NOTHING = None  # the connection is closed with no answer
 
 
 class FakeDesk:
     """`answer(what)` gives a time, a status and a body for the words of a desk's request, or for the method and the
     path of a patron's; `sent` is what came. A time is in seconds, or an event that is waited for. The library's day and
-    its branches are asked at any time, so they aren't among what came, and the day has an answer of its own."""
+    its branches are asked at any time, so they aren't among what came; the day is answered where a test doesn't."""
 
     def __init__(self, pages):
-        self.day, self.pages, self.sent, self.answer = time.strftime("%Y-%m-%d"), pages, [], lambda what: (0.0, 404, json.dumps({"status": 404}))
+        self.day, self.pages, self.sent, self.answer = time.strftime("%Y-%m-%d"), pages, [], lambda what: UNKNOWN
         handler = type("Handler", (Handler,), {"fake": self})
         self.server = ThreadingHTTPServer(("127.0.0.1", 0), handler)
         self.url = f"http://127.0.0.1:{self.server.server_address[1]}"
@@ -66,11 +67,11 @@ class Handler(BaseHTTPRequestHandler):
         self.asked(" ".join(json.loads(body)) if self.path == "/desk" else f"POST {self.path} {body}".strip())
 
     def asked(self, what):
-        if what == "today":
-            return self.tell(200, json.dumps({"reply": f"today {self.fake.day}"}).encode(), "application/json")
-        if what != "branches 0":
+        if what not in ("today", "branches 0"):
             self.fake.sent.append((what, self.headers["Request-Key"]))
         answer = self.fake.answer(what)
+        if what == "today" and answer == UNKNOWN:
+            answer = reply(f"today {self.fake.day}")
         if answer is NOTHING:
             self.close_connection = True
             return

@@ -38,8 +38,8 @@ class Serving:
     def __init__(self, place):
         self.path, self.port = os.path.join(place, "town.db"), outside.free_port()
 
-    def start(self):
-        self.run = subprocess.Popen([outside.PROGRAM, "serve", self.path, str(self.port), "4", "1000000", DESK_KEY], stdout=subprocess.PIPE)
+    def start(self, keys=DESK_KEY):
+        self.run = subprocess.Popen([outside.PROGRAM, "serve", self.path, str(self.port), "4", "1000000", keys], stdout=subprocess.PIPE)
         need("listening", self.run.stdout.readline(), f"listening on {self.port}\n".encode())
 
     def kill(self):
@@ -415,6 +415,22 @@ def killed(driver, base, serving):
     need("the loan", desk.told()[:19], "Salt Roads lent to ")
 
 
+def lending(driver, base, serving, place):
+    """The desk of a clerk who lends alone opens, lends and takes in."""
+    outside.write(f"{place}/desk.keys", f"keeper desk {DESK_KEY}\nkiosk lending kioskkey0001\n")
+    os.chmod(f"{place}/desk.keys", 0o600)
+    serving.kill()
+    serving.start(f"@{place}/desk.keys")
+    desk = Desk(driver, base, None)
+    desk.sign_in(1, "kioskkey0001")
+    until("the desk is open", lambda: desk.it("desk").is_displayed())
+    desk.mode("check-in")
+    need("what Ann has comes in", desk.scan("C11"), "Rivers of the North: To the shelf, Main. No fine.")
+    desk.mode("check-out")
+    desk.scan("P1")
+    need("and is lent to her again", desk.scan("C11")[:31], "Rivers of the North lent to Ann")
+
+
 def strangers(driver, base):
     """From an address that may not ask a desk nginx answers by itself, in its own words."""
     page = Desk(driver, base, None)
@@ -543,6 +559,7 @@ def tried(behind, pictures):
                     driver.execute_script("document.activeElement.blur()")
                     look(driver, "patron-page.png", (900, 1120))
                 killed(driver, base, serving)
+                lending(driver, base, serving, place)
                 need("what the browser complains of", complaints(driver), [])
             if behind is behind_nginx:
                 with behind_nginx(place, serving.port, allowed="") as base:

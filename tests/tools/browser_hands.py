@@ -16,7 +16,7 @@ from selenium.webdriver.common.keys import Keys
 
 from room import TOP
 from lib.browsing import Desk, Failed, Page, browser, complaints, counts, need, until
-from lib.fake_desk import NOTHING, FakeDesk, refusal, reply
+from lib.fake_desk import NOTHING, UNKNOWN, FakeDesk, refusal, reply
 
 PAGE = {"1": "patron 1 owed 0 name Ann Bell", "4": "patron 4 owed 0 name Di Eck"}
 
@@ -30,6 +30,10 @@ def answers(table, seconds=0.0):
             if what == words or what.startswith((f"{words} ", f"{words}/")):
                 told = found.pop(0) if len(found) > 1 else found[0]
                 return (told[0] or seconds, *told[1:]) if told else NOTHING
+        if what == "today":
+            return UNKNOWN
+        if what == "branches 0":
+            return refusal(81)  # as a clerk who lends alone is answered
         if what.startswith("shelf "):
             return reply("      hold    copy  patron until      title\nend", seconds)
         if what.startswith("copy "):
@@ -224,21 +228,22 @@ def opening(driver, fake):
     until("where and when", lambda: page.it("place").text == f"Town library, branch 1, {fake.day}")
     page.it("sign-out").click()
     need("a closed desk is nowhere", page.it("place").text, "")
-    for answer, told in ((refusal(81), "The key is wrong, or may not do this."), (refusal(10), "There is no such branch."),
-                         ((0.0, 403, "<html>"), "This page can't read the answer (status 403). It is not known whether the request was carried out.")):
-        fake.says(answers({"shelf 7 0": answer}))
+    unread, towns = (0.0, 403, "<html>"), reply("branch 1 pickup 5 week ooooooc name Main\nbranch 70 pickup 3 week coooooc name Harbour\nend")
+    not_read = "This page can't read the answer (status 403). It is not known whether the request was carried out."
+    for answer, told in (({"today": refusal(81)}, "The key is wrong, or may not do this."), ({"branches 0": towns}, "There is no such branch."), ({"today": unread}, not_read), ({"branches 0": unread}, not_read)):
+        fake.says(answers(answer))
         page.sign_in(7, "deskkey00009")
-        until(told, lambda: page.told() == told and page.is_wrong())
+        until(f"{told} {answer}", lambda: page.told() == told and page.is_wrong())
         need("it stays closed, and keeps nothing", (page.it("desk").is_displayed(), page.stored()), (False, {}))
     fake.says(answers({}))
     for branch, key in ((1, "Schlüssel"), ("x", "deskkey00001")):
         page.sign_in(branch, key)
         until("what isn't in its form isn't sent", lambda: page.told().startswith("This should be") and fake.sent == [])
-    fake.says(answers({"shelf 2 0": [NOTHING, NOTHING, reply("      hold    copy  patron until      title\nend")]}))
+    fake.says(answers({"today": [NOTHING, NOTHING, reply(f"today {fake.day}")]}))
     page.sign_in(2, "deskkey00001")
     until("no answer is told", lambda: page.told() == "No connection. We keep trying.")
     until("it opens once there is one", lambda: page.it("desk").is_displayed())
-    need("the branch", page.it("place").text.split(", ")[1], "branch 2")
+    need("the branch, which a clerk who lends alone may not ask for, and nothing else that such a clerk may not", (page.it("place").text.split(", ")[1], fake.sent), ("branch 2", []))
 
 
 def scanners(driver, fake):
