@@ -6,6 +6,12 @@ import { BRANCHES } from "./texts.js";
 const NAMES = "circ.branches";
 const HERE = "circ.branch";
 
+// The number of a branch that is typed by its number, or by its name among these; null where it is neither.
+export function numberOfBranch(text, names) {
+  if (isNumber(text)) return text;
+  return Object.entries(names).find(([, name]) => name.toLowerCase() === text.toLowerCase())?.[0] ?? null;
+}
+
 export class Branches {
   constructor(machine) {
     Object.assign(this, { machine, given: { ...BRANCHES } });
@@ -39,9 +45,7 @@ export class Branches {
     Object.assign(BRANCHES, this.names);
   }
 
-  // The number of a branch that is typed by its number or by its name; null where it is neither.
   numberOf(text) {
-    if (isNumber(text)) return text;
-    return this.all.find(([, name]) => name.toLowerCase() === text.toLowerCase())?.[0] ?? null;
+    return numberOfBranch(text, this.names);
   }
 }

@@ -6,6 +6,7 @@ import { Branches } from "./branches.js";
 import { isKey } from "./commands.js";
 import { clearLists, clearLookUps, listEnded, listenForLists, showList, showTillDay } from "./desk_lists.js";
 import { EntryForms } from "./entry_forms.js";
+import { plain } from "./isolating.js";
 import { LeftBehind, openTabs } from "./left_behind.js";
 import { LibraryDay } from "./library_day.js";
 import { lookFirst } from "./opening.js";
@@ -13,11 +14,12 @@ import { Papers } from "./papers.js";
 import { readList } from "./questions.js";
 import { backToLine, focusScan, listenForScans } from "./scan_line.js";
 import { wanted } from "./scans.js";
-import { MOST_NOTES, clearNotes, it, mode, note, print, putSlipsAway, showHead, showMode, showOpen, showSlip, showVisit, showWaiting, showWanted, tell, tellQuietly } from "./screen.js";
+import { MOST_NOTES, clearNotes, it, mode, note, print, putSlipsAway, showHead, showMode, showOpen, showSlip, showTold, showVisit, showWaiting, showWanted, tell, tellQuietly } from "./screen.js";
 import { SearchBox } from "./search_box.js";
 import { isSoundOn, switchSound } from "./sound.js";
 import { listenForTabs, showTab } from "./tabs.js";
 import { TEXTS, branchName, fillIn, say } from "./texts.js";
+import { silence, speak } from "./voice.js";
 import { listenForWords } from "./word_line.js";
 import { Work } from "./work.js";
 
@@ -46,6 +48,12 @@ function askBy(keyValue, signal, words, requestKey, unknown) {
   return askUntilAnswered(request, unknown, { signal });
 }
 
+// Tells without a sound that no answer came, and speaks it once, however often it is.
+function tellUnknown(text) {
+  if (it("told").textContent !== plain(text)) speak(plain(text), true);
+  tellQuietly(text, true);
+}
+
 function showDay() {
   showHead(desk().branch, day.now);
   if (day.now !== null) showTillDay(day.now);
@@ -53,7 +61,7 @@ function showDay() {
 
 const screen = {
   told: (text, isWrong, isSpecial) => {
-    tell(text, isWrong, isSpecial);
+    showTold(text, isWrong, isSpecial);
     if (isWrong) backToLine();
   },
   toldMore: (text) => tellQuietly(text, true),
@@ -74,6 +82,7 @@ const screen = {
   nobody: () => {
     clearNotes();
     papers.clearNotes();
+    silence();
     clearLookUps();
     forms.clearPatron();
   },
@@ -103,7 +112,8 @@ async function learnBranches() {
 function showBranches(rows) {
   const { branch } = desk();
   if (rows !== null) branches.learn(rows);
-  forms.offer(branches.all.length > 0 ? branches.all : [[branch, branchName(branch)]], branch);
+  const offered = branches.all.length > 0 ? branches.all : [[branch, branchName(branch)]];
+  forms.offer(offered, branch);
   offerBranches();
   showDay();
 }
@@ -132,7 +142,7 @@ function open() {
   leaving = new AbortController();
   const { key, branch } = desk();
   const { signal } = leaving;
-  const ask = (words, requestKey, unknown) => askBy(key, signal, words, requestKey, () => tellQuietly(unknown, true));
+  const ask = (words, requestKey, unknown) => askBy(key, signal, words, requestKey, () => tellUnknown(unknown));
   day = new LibraryDay((words) => askBy(key, signal, words, newKey(), () => {}), showDay);
   asking = setInterval(() => day.look(), MINUTE);
   papers = new Papers(sessionStorage, MOST_NOTES);
@@ -157,7 +167,7 @@ async function tryToOpen(key, branch) {
   const mine = new AbortController();
   leaving = mine;
   tell(TEXTS.sending);
-  const found = await lookFirst((words) => askBy(key, mine.signal, words, newKey(), () => tellQuietly(TEXTS.unknownOpening, true)), branch);
+  const found = await lookFirst((words) => askBy(key, mine.signal, words, newKey(), () => tellUnknown(TEXTS.unknownOpening)), branch);
   if (found === null || mine !== leaving) return;
   if (found.problem !== null) return tell(found.problem, true);
   sessionStorage.setItem(DESK, JSON.stringify({ key, branch }));
@@ -211,13 +221,14 @@ it("sign-out").addEventListener("click", () => {
   it("branch").value = branches.here;
   showMode("check-out");
   showTab("circulation");
+  silence();
   tell(closing(unknown, unsent), unknown.length + unsent.length > 0);
   it("desk-key").focus();
 });
 
 fillIn();
 const search = new SearchBox({
-  ask: (words, signal) => askBy(desk().key, signal, words, newKey(), () => tellQuietly(TEXTS.unknownOpening, true)),
+  ask: (words, signal) => askBy(desk().key, signal, words, newKey(), () => tellUnknown(TEXTS.unknownOpening)),
   wanted: () => wanted(mode(), work.expected),
   take: (number) => work.scan(mode(), number),
 });

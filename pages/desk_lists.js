@@ -3,16 +3,18 @@
 import { buttonsOf, renew } from "./action_buttons.js";
 import { isAskedFirst } from "./asked_first.js";
 import { isNumber, onlyAsk } from "./commands.js";
-import { write } from "./isolating.js";
+import { plain, write } from "./isolating.js";
 import { readCopy, readList } from "./questions.js";
 import { actionsOfRow } from "./row_actions.js";
 import { saidNo } from "./saying.js";
+import { saveFile } from "./saving.js";
 import { cut, nameOf } from "./scans.js";
 import { backToLine, focusScan } from "./scan_line.js";
 import { it, print } from "./screen.js";
 import { csvOf, fileNameOf, sorted, sortedNext } from "./sheet.js";
 import { expiredHold, headOf, tableOf, wordsOfQuestion } from "./tables.js";
 import { TEXTS, branchName, say } from "./texts.js";
+import { speak } from "./voice.js";
 
 // What is shown, what was asked last, and how many lists were asked for: the answer to one that was asked for before the last comes too late. How the rows are sorted, null where they
 // are as they came; and what was done with its rows.
@@ -29,7 +31,8 @@ const QUESTIONS = {
 export const panelOf = (question) => Object.keys(QUESTIONS).find((panel) => QUESTIONS[panel].includes(question));
 
 function tell(text, isWrong = false) {
-  it("list-told").textContent = text;
+  write(it("list-told"), text);
+  if (text !== "" && text !== TEXTS.sending) speak(plain(text), isWrong);
   it("list-told").classList.toggle("wrong", isWrong);
   if (isWrong) backToLine();
 }
@@ -54,8 +57,8 @@ function rowOf(cells, actions, what) {
 // Does what was pressed; what is sent at once isn't offered a second time.
 function press(action) {
   if (action.sends && !isAskedFirst(action.sends)) view.done.add(action.sends.join(" "));
+  if (action.sends) show(view.shown);
   view.shown.act(action);
-  show(view.shown);
 }
 
 // What can still be done with a row.
@@ -105,9 +108,7 @@ function unshelveAll() {
 }
 
 function save() {
-  const address = URL.createObjectURL(new Blob([csvOf(tableShown(view.shown))], { type: "text/csv;charset=utf-8" }));
-  Object.assign(document.createElement("a"), { href: address, download: fileNameOf(view.shown.question, view.shown.day) }).click();
-  URL.revokeObjectURL(address);
+  saveFile(fileNameOf(view.shown.question, view.shown.day), "text/csv", csvOf(tableShown(view.shown)));
 }
 
 // What a row is about, as a screen reader is told it.
@@ -123,8 +124,9 @@ function show({ question, list, branch, day }) {
   it("unshelve-all").hidden = expired.length < 2;
   it("unshelve-all").textContent = say(TEXTS.unshelveAll, { count: expired.length });
   it("more").hidden = list.after === null;
-  it("list-paper").hidden = false;
-  tell(rows.length > 0 ? "" : list.after === null ? TEXTS.noRows : TEXTS.noneYet);
+  it("list-table").hidden = rows.length === 0;
+  it("list-paper").hidden = rows.length === 0 && list.after === null;
+  tell(rows.length > 0 ? "" : say(TEXTS.ofLabel, { label: head, told: list.after === null ? TEXTS.noRows : TEXTS.noneYet }));
 }
 
 // What was answered, as a list; one without a head is told by what was asked about.
@@ -200,6 +202,7 @@ export function listEnded(desk, words) {
   if (view.shown === null || onlyAsk(words)) return;
   view.done.add(words.join(" "));
   const { question, about } = view.shown;
+  if (view.last !== question || it("sheet").parentElement.id !== panelOf(question)) return;
   if (["copy", "branches", "closed-days", "kinds", "rules"].includes(question)) ask(desk, question, about, 0, []);
   else show(view.shown);
 }

@@ -5,7 +5,7 @@ import { COMMANDS, KINDS } from "./commands.js";
 import { formOf, isBranch, labelOf, partOfRefusal, problemOfField, wordsOfForm } from "./fields.js";
 import { it } from "./screen.js";
 import { showTab } from "./tabs.js";
-import { MEANINGS, TEXTS } from "./texts.js";
+import { MEANINGS, TEXTS, say } from "./texts.js";
 
 // the forms of each panel by their commands, with what each is called
 const FORMS = {
@@ -37,7 +37,7 @@ function controlOf(command, part, id) {
   if (KINDS[part] === "Mask") return weekOf(id);
   if (isBranch(part) && command !== "branch") return element("select", { id });
   const isFree = ["Name", "CardKey"].includes(KINDS[part]);
-  return element("input", { id, type: KINDS[part] === "Day" ? "date" : "text", inputMode: isFree ? "text" : KINDS[part] === "Amount" ? "decimal" : "numeric", spellcheck: false, autocomplete: "off" });
+  return element("input", { id, type: KINDS[part] === "Day" ? "date" : "text", inputMode: isFree ? "text" : KINDS[part] === "Amount" ? "decimal" : "numeric", spellcheck: false, autocomplete: "off", dir: isFree ? "auto" : "ltr" });
 }
 
 class Field {
@@ -89,9 +89,11 @@ class EntryForm {
   constructor(command, name, take) {
     this.command = command;
     this.fields = COMMANDS[command].map((part) => new Field(command, part));
-    const form = element("form", { noValidate: true, autocomplete: "off" }, ...this.fields.map(({ place }) => place), element("button", { textContent: name }));
+    this.given = element("p", { className: "given" });
+    const form = element("form", { noValidate: true, autocomplete: "off" }, ...this.fields.map(({ place }) => place), element("button", { textContent: name }), this.given);
     form.addEventListener("submit", (event) => {
       event.preventDefault();
+      this.forget();
       if (this.isRight()) take(this.words());
     });
     this.place = element("details", { id: `form-${command}` }, element("summary", { textContent: name }), form);
@@ -113,6 +115,7 @@ class EntryForm {
   }
 
   fill(values) {
+    this.forget();
     this.place.open = true;
     for (const field of this.fields) {
       field.value = String(values[field.part] ?? field.value);
@@ -121,17 +124,29 @@ class EntryForm {
     (this.fields.find(({ part }) => !(part in values)) ?? this.fields[0]).focus();
   }
 
+  // Shows no card key any more.
+  forget() {
+    this.given.textContent = "";
+  }
+
   clear() {
+    this.forget();
     for (const field of this.fields) {
       if (!isBranch(field.part)) field.value = "";
       field.tell(null);
     }
   }
 
-  // What became of words: where they are still those of the form it is cleared once they are done, and else the field that a refusal is about tells it.
+  // What became of words: where they are still those of the form it is cleared once they are done, but a card key that was given stays to be read; and else the field that a refusal is
+  // about tells it.
   ended(words, refusal) {
     if (words.join("\n") !== this.words().join("\n")) return;
-    if (refusal === null) return this.clear();
+    if (refusal === null) {
+      this.clear();
+      const at = COMMANDS[this.command].indexOf("card-key");
+      if (at !== -1) this.given.textContent = say(TEXTS.keyGiven, { patron: words[1], key: words[at + 1] });
+      return;
+    }
     const part = partOfRefusal(this.command, refusal);
     this.fields.find((field) => field.part === part)?.tell(MEANINGS[refusal]);
   }
@@ -175,6 +190,7 @@ export class EntryForms {
 
   // Clears what is filled in of a patron who has left; who is being enrolled isn't there yet.
   clearPatron() {
+    this.forms.patron.forget();
     this.clear(["amend-patron", "card-key", "waive"]);
   }
 }

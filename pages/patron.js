@@ -1,19 +1,27 @@
 // A patron's page: what is lent, what is on hold, what is owed; renewing, holds and cancelling.
 
+import { numberOfBranch } from "./branches.js";
 import { once } from "./clicks.js";
 import { holdBody, isKey, isNumber } from "./commands.js";
 import { daysBetween, today } from "./days.js";
+import { calendarOf } from "./due_days.js";
 import { marked, plain, write } from "./isolating.js";
+import { saveFile } from "./saving.js";
 import { renewalsLeft, saidNo, stateOf } from "./saying.js";
+import { cut, nameOf } from "./scans.js";
 import { SignedIn } from "./signed_in.js";
 import { BRANCHES, TEXTS, amount, fillIn, say } from "./texts.js";
+import { silence, speak } from "./voice.js";
 
 const it = (id) => document.getElementById(id);
-// who is signed in, if anybody is
+// who is signed in, if anybody is, and whose loans are shown
 let patron = null;
+let loans = [];
 
+// Tells, and speaks what isn't told already.
 function tell(text, isWrong = false) {
-  it("told").textContent = text;
+  if (![TEXTS.sending, "", it("told").textContent].includes(plain(text))) speak(plain(text), isWrong);
+  write(it("told"), text);
   it("told").classList.toggle("wrong", isWrong);
 }
 
@@ -33,6 +41,7 @@ function item(lines, action) {
   if (action) {
     const button = document.createElement("button");
     button.type = "button";
+    button.dataset.path = action.path;
     button.textContent = action.text;
     button.setAttribute("aria-label", plain(action.label));
     button.addEventListener("click", (event) => actOnce(event, action.path));
@@ -62,14 +71,36 @@ function none(text) {
   return item([[text, null]]);
 }
 
+// Keeps the focus where it was: on the button that does the same, or else on the head of its list.
+function keepFocus(path, list) {
+  const same = document.querySelector(`[data-path="${path}"]`);
+  (same ?? it(`${list}-head`)).focus();
+}
+
 function show(page) {
+  const { dataset, parentElement } = document.activeElement;
+  const [path, list] = [dataset.path, parentElement?.closest("ul")?.id];
+  ({ loans } = page);
   write(it("name"), marked(page.name));
   it("owed").textContent = page.owed === 0 ? TEXTS.owesNothing : say(TEXTS.owes, { owed: amount(page.owed) });
   it("owed").className = page.owed === 0 ? "" : "late";
   it("loans").replaceChildren(...(page.loans.length ? page.loans.map(loanItem) : [none(TEXTS.noLoans)]));
   it("holds").replaceChildren(...(page.holds.length ? page.holds.map(holdItem) : [none(TEXTS.noHolds)]));
+  it("renew-all").hidden = renewable().length < 2;
+  it("save-days").hidden = loans.length === 0;
   it("sign-in").hidden = true;
   it("page").hidden = false;
+  if (path !== undefined) keepFocus(path, list);
+}
+
+const renewable = () => loans.filter(({ renewals }) => renewals > 0);
+
+// The title that the address asks to hold, as #hold=100, is filled in.
+function fillHold() {
+  const title = /^#hold=(.*)$/.exec(location.hash)?.[1] ?? "";
+  if (!isNumber(title) || it("page").hidden) return;
+  it("title").value = title;
+  it("branch").focus();
 }
 
 // Shows the page that a signed-in patron is answered; whether it came.
@@ -100,6 +131,23 @@ async function finish(mine, answering) {
   return Boolean(answer.reply);
 }
 
+// Renews what can be renewed, one after another, and tells how many were and why others weren't.
+async function renewAll() {
+  const mine = patron;
+  const all = renewable();
+  const problems = [];
+  if (mine.door.isBusy) return;
+  tell(TEXTS.sending);
+  for (const loan of all) {
+    const answer = await mine.act(`/loans/${loan.loan}/renew`);
+    if (!answer || mine !== patron) return;
+    if (!answer.reply) problems.push(say(TEXTS.ofTitle, { text: loan.text, told: saidNo(answer) }));
+  }
+  const text = [say(TEXTS.renewedSome, { count: all.length - problems.length, all: all.length }), ...problems].join(" ");
+  if (await look(mine)) tell(text, problems.length > 0);
+  if (it("renew-all").hidden && mine === patron) it("loans-head").focus();
+}
+
 async function act(path, body) {
   const mine = patron;
   if (mine.door.isBusy) return false;
@@ -109,8 +157,9 @@ async function act(path, body) {
 
 it("sign-in").addEventListener("submit", async (event) => {
   event.preventDefault();
-  const number = it("number").value.trim();
+  const { of, number } = cut(it("number").value.trim());
   const key = it("card-key").value.trim();
+  if (of === "copy") return tell(say(TEXTS.otherScanned, { is: nameOf(of), wanted: nameOf("patron") }), true);
   if (!isNumber(number)) return tell(say(TEXTS.wrongForm, { what: TEXTS.numberForm }), true);
   if (!isKey(key)) return tell(say(TEXTS.wrongForm, { what: TEXTS.cardKeyForm }), true);
   it("card-key").value = "";
@@ -123,6 +172,7 @@ it("sign-in").addEventListener("submit", async (event) => {
   if (isShown) {
     tell("");
     it("name").focus();
+    fillHold();
   } else {
     patron.signOut();
     patron = null;
@@ -132,33 +182,41 @@ it("sign-in").addEventListener("submit", async (event) => {
 // The fields are emptied once the hold is placed, unless something else was typed meanwhile.
 it("place").addEventListener("submit", async (event) => {
   event.preventDefault();
-  const [title, branch, day] = ["title", "branch", "from"].map((id) => it(id).value.trim());
-  if (!isNumber(title) || !isNumber(branch)) return tell(say(TEXTS.wrongForm, { what: TEXTS.numberForm }), true);
+  const [title, place, day] = ["title", "branch", "from"].map((id) => it(id).value.trim());
+  const branch = numberOfBranch(place, BRANCHES);
+  if (!isNumber(title)) return tell(say(TEXTS.wrongForm, { what: TEXTS.numberForm }), true);
+  if (branch === null) return tell(say(TEXTS.wrongForm, { what: TEXTS.branchForm }), true);
   const isDone = await act("/holds", holdBody(title, branch, day));
   if (!isDone || it("title").value.trim() !== title) return;
   it("title").value = "";
   it("from").value = "";
 });
 
+it("renew-all").addEventListener("click", once(renewAll));
+it("save-days").addEventListener("click", () => saveFile(`${today()}.ics`, "text/calendar", calendarOf(loans)));
+window.addEventListener("hashchange", fillHold);
+
 it("sign-out").addEventListener("click", () => {
   const wasBusy = patron.signOut();
   patron = null;
+  loans = [];
   it("page").hidden = true;
   it("sign-in").hidden = false;
   for (const id of ["name", "owed", "loans", "holds"]) it(id).replaceChildren();
   for (const form of document.forms) form.reset();
+  silence();
   tell(wasBusy ? TEXTS.signedOutUnknown : TEXTS.signedOut, wasBusy);
   it("number").focus();
 });
 
 fillIn();
 
-it("branches").append(...Object.entries(BRANCHES).map(([branch, name]) => new Option(name, branch)));
+it("branches").append(...Object.values(BRANCHES).map((name) => new Option(name)));
 
 // What was on its way when the tab was loaded anew comes first.
 patron = SignedIn.before(tellUnknown);
 if (patron) {
   const before = patron.actBefore();
   if (before) finish(patron, before);
-  else look(patron);
+  else look(patron).then(fillHold);
 }

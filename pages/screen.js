@@ -10,6 +10,8 @@ import { slipLines } from "./slips.js";
 import { soundAlarm, soundChime } from "./sound.js";
 import { TEXTS, TOWN, amount, branchName, say } from "./texts.js";
 import { beginsOtherDay, needsConfirming, wanted } from "./scans.js";
+import { plain } from "./isolating.js";
+import { Ends, speak } from "./voice.js";
 
 export const MOST_NOTES = 20;
 export const it = (id) => document.getElementById(id);
@@ -29,11 +31,24 @@ export function showMode(value) {
   document.querySelector(`input[name=mode][value=${value}]`).checked = true;
 }
 
-// Tells the clerk; what is wrong is heard too, and so is what is special about a copy that came in.
-export function tell(text, isWrong = false, isSpecial = false) {
+const ends = new Ends();
+
+// Tells the clerk, aloud and with a sound where it is wrong.
+export function tell(text, isWrong = false) {
+  showTold(text, isWrong);
+  if (text !== "" && text !== TEXTS.sending) speak(plain(text), isWrong);
+}
+
+// Shows what is told of what is served; what is wrong has a sound, and so has what is special about a copy that came in. It is spoken once it has ended.
+export function showTold(text, isWrong = false, isSpecial = false) {
   tellQuietly(text, isWrong, isSpecial);
   if (isWrong) soundAlarm();
   else if (isSpecial) soundChime();
+}
+
+function speakOfEnded(served) {
+  const { innerText, classList } = it("told");
+  if (ends.hasEnded(served) && innerText !== "") speak(innerText, classList.contains("wrong") || classList.contains("special"));
 }
 
 export function tellQuietly(text, isWrong, isSpecial = false) {
@@ -61,9 +76,11 @@ export function clearNotes() {
 // Shows where the desk is, and the library's day, loudly where it isn't that of this machine; nothing where the desk is closed.
 export function showHead(branch, day) {
   const isOther = branch !== null && day !== null && day !== today();
+  const other = isOther ? say(TEXTS.otherDay, { day, today: today() }) : "";
+  if (other !== "" && other !== it("other-day").textContent) speak(other);
   it("place").textContent = branch === null ? "" : say(TEXTS.deskHead, { town: TOWN, branch: branchName(branch), day: day ?? TEXTS.noDay });
   it("place").classList.toggle("other-day", isOther);
-  it("other-day").textContent = isOther ? say(TEXTS.otherDay, { day, today: today() }) : "";
+  it("other-day").textContent = other;
 }
 
 // Shows by what the item that stopped the queue is sent again: by a button, and where it begins another day by a typed yes too. Gives what the button says that goes on without it.
@@ -78,6 +95,7 @@ function showConfirming(held) {
 
 // Shows what is sent and what waits, and what the clerk can do where the queue stands still.
 export function showWaiting(queue) {
+  speakOfEnded(queue.current);
   const shown = [...(queue.current ? [say(TEXTS.isSent, { what: labelOf(queue.current) })] : []), ...queue.waiting.map(labelOf)];
   const waits = queue.waiting.length > 0;
   it("waiting").replaceChildren(...shown.map(line));

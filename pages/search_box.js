@@ -1,10 +1,11 @@
 // The list below the line for scans of what is found by the letters that stand in it: the arrow keys go through it, and Enter takes what is chosen.
 
-import { write } from "./isolating.js";
+import { plain, write } from "./isolating.js";
 import { saidNo } from "./saying.js";
 import { cut } from "./scans.js";
 import { it } from "./screen.js";
 import { Search, searchedBy } from "./search.js";
+import { speak } from "./voice.js";
 import { TEXTS, amount, say } from "./texts.js";
 
 const nameOf = (row) => (row.patron === undefined ? say(TEXTS.foundTitle, row) : say(TEXTS.patronHead, { ...row, owed: amount(row.owed) }));
@@ -60,6 +61,7 @@ export class SearchBox {
     it("found").hidden = this.options.length === 0;
     it("scan").ariaExpanded = String(this.options.length > 0);
     write(it("found-told"), told(found));
+    if (found.question !== null) speak(plain(told(found)));
     this.goTo(begin > 0 || this.options.length === 1 ? begin : -1);
   }
 

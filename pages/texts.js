@@ -72,6 +72,10 @@ export const TEXTS = {
   pickUpBranch: "Pick-up branch",
   fromDay: "Not needed before (optional)",
   placeTheHold: "Place the hold",
+  renewAll: "Renew all",
+  renewedSome: "{count} of {all} renewed.",
+  saveDueDays: "Save the due days for a calendar",
+  dueOf: "Due: {text}",
   signOut: "Sign out",
 
   deskTitle: "Circulation desk",
@@ -299,6 +303,7 @@ export const TEXTS = {
   setRule: "Set a circulation rule",
   setGrace: "Set grace days",
   makeKey: "Make a key",
+  keyGiven: "Card key of patron {patron}: {key}",
   partAmount: "Amount",
   partBranch: "Branch",
   partCap: "A fine is at most",

@@ -57,6 +57,10 @@ export const TEXTS = {
   pickUpBranch: "Abholen in",
   fromDay: "Nicht nötig vor (freiwillig)",
   placeTheHold: "Vormerken",
+  renewAll: "Alle verlängern",
+  renewedSome: "{count} von {all} verlängert.",
+  saveDueDays: "Rückgabetage für einen Kalender speichern",
+  dueOf: "Zurückzugeben: {text}",
   signOut: "Abmelden",
 
   deskTitle: "Ausleihtheke",
@@ -284,6 +288,7 @@ export const TEXTS = {
   setRule: "Eine Ausleihregel festlegen",
   setGrace: "Karenztage festlegen",
   makeKey: "Schlüssel erzeugen",
+  keyGiven: "Ausweisschlüssel der Person {patron}: {key}",
   partAmount: "Betrag",
   partBranch: "Zweigstelle",
   partCap: "Gebühr höchstens",

@@ -3,6 +3,7 @@ import { deepStrictEqual as same } from "node:assert";
 import { readCopy, readList } from "../../pages/questions.js";
 import { readAnswer, readReply, readPage } from "../../pages/replies.js";
 import { daysBetween, isDay, today } from "../../pages/days.js";
+import { calendarOf } from "../../pages/due_days.js";
 import { QUESTIONS, centsOf, commandBegun, holdBody, isKey, isNumber, readLine, wordsTyped } from "../../pages/commands.js";
 import { Door, newKey } from "../../pages/asking.js";
 import { marked, plain } from "../../pages/isolating.js";
@@ -362,6 +363,16 @@ const long120 = "ö".repeat(60);
 is(["begin-day 2028-02-29", `amend-title 1 ${long120}`, "week 1 ccccccc", "pay 1 42949672.95", 'patron 1 1 cardkey00001 "Ann O\'Hara"', "today"].map(problemOfLine), Array(6).fill(null));
 is([problemOfLine(`amend-title 1 ${long120}x`) === null, problemOfLine("amend-title 1 'a\u0007b'") === null], [false, false]);
 is(["2000-01-01", "2199-12-31", "1999-12-31", "2200-01-01", "2026-3-1", "2026-13-01", "2026-04-31", ""].map(isDay), [true, true, false, false, false, false, false, false]);
+
+// ---- the due days as a file for a calendar: its lines end by CR LF, have at most 75 octets, and tear no letter
+const moment = new Date(Date.UTC(2026, 2, 2, 9, 5, 7));
+is(calendarOf([{ loan: 5, due: "2026-03-09", text: "Maps, Old; and New\\" }], moment), [
+  "BEGIN:VCALENDAR", "VERSION:2.0", "PRODID:-//circ//EN", "BEGIN:VEVENT", "UID:loan-5-2026-03-09@circ", "DTSTAMP:20260302T090507Z", "DTSTART;VALUE=DATE:20260309", "SUMMARY:Due: Maps\\, Old\\; and New\\\\", "TRANSP:TRANSPARENT",
+  "END:VEVENT", "END:VCALENDAR", ""].join("\r\n"));
+const longLines = calendarOf([{ loan: 1, due: "2026-03-09", text: "ö".repeat(60) }, { loan: 2, due: "2026-03-10", text: bees }], moment).split("\r\n");
+is(longLines.filter((line) => new TextEncoder().encode(line).length > 75), []);
+is(longLines.join("\r\n").replaceAll("\r\n ", "").includes(`SUMMARY:Due: ${"ö".repeat(60)}\r\n`), true);
+is([longLines.filter((line) => line.startsWith(" ")).length, longLines.filter((line) => line.includes(bees)).length, calendarOf([], moment).split("\r\n").length], [1, 1, 5]);
 
 // ---- each other language has the same keys, fills in the same, and has a text of its own for each
 const filledIn = (texts) => Object.fromEntries(Object.entries(texts).map(([key, text]) => [key, [...text.matchAll(/\{(\w+)\}/g)].map(([, part]) => part).sort()]));

@@ -13,7 +13,7 @@ from room import TOP
 from lib.checking import check, run_script
 from reference.outer_forms import WORDS
 
-MODULES = {"pages": 284, "hands": 383}  # how many comparisons the modules of these names make
+MODULES = {"pages": 288, "hands": 383}  # how many comparisons the modules of these names make
 
 
 def read(path):
@@ -50,6 +50,33 @@ def wanted():
     return program, [(kind, text) for kind, text in re.findall(r'^  must([A-Z]\w*): "([^"]*)",$', read("pages/texts.js"), re.MULTILINE) if kind != "Be"]
 
 
+def colours():
+    """The colours of the style by their names, where the system is light and where it is dark, and those that stand outside of these."""
+    light, dark, rest = re.fullmatch(r"(?s).*?:root \{(.*?)\}.*?prefers-color-scheme: dark\) \{\s*:root \{(.*?)\}(.*)", read("pages/style.css")).groups()
+    return [dict(re.findall(r"--(\w+): (#[0-9a-f]{6});", it)) for it in (light, dark)], re.findall(r"#[0-9a-f]{3,8}\b|rgba?\(|hsla?\(", rest)
+
+
+def contrast(one, other):
+    """How much lighter one colour is than the other, by WCAG 2.2."""
+    def light(colour):
+        parts = (int(colour[at:at + 2], 16) / 255 for at in (1, 3, 5))
+        return sum(share * (it / 12.92 if it <= 0.04045 else ((it + 0.055) / 1.055) ** 2.4) for share, it in zip((0.2126, 0.7152, 0.0722), parts))
+    low, high = sorted((light(one), light(other)))
+    return (high + 0.05) / (low + 0.05)
+
+
+def readable():
+    """Each text has 4.5 to 1 on what it stands on, and each line and mark of the focus 3 to 1."""
+    check("black on white", round(contrast("#000000", "#ffffff"), 2), 21)
+    schemes, others = colours()
+    for scheme in schemes:
+        for ground in ("paper", "card"):
+            wanted = {"ink": 4.5, "quiet": 4.5, "wrong": 4.5, "soon": 4.5, "good": 4.5, "line": 3}
+            check(f"colours on {scheme[ground]}", {name: round(contrast(scheme[name], scheme[ground]), 2) for name, least in wanted.items() if contrast(scheme[name], scheme[ground]) < least}, {})
+        check("the colours that there are", sorted(scheme), ["card", "good", "ink", "line", "paper", "quiet", "soon", "wrong"])
+    check("colours that have no name", others, [])
+
+
 def loaded(script):
     """A script of a page, and those that it loads."""
     found, left = [], [script]
@@ -72,6 +99,7 @@ def main():
     for what, (program, page) in (("the kinds of parts", kinds()), ("what a word must be", wanted())):
         check(what, (page, len(page) > 4), (program, True))
 
+    readable()
     names = sorted(os.listdir(os.path.join(TOP, "pages")))
     pages, scripts = ([name for name in names if name.endswith(end)] for end in (".html", ".js"))
     check("there are pages and scripts", (len(pages) > 1, len(scripts) > 3), (True, True))

@@ -117,6 +117,7 @@ class Desk(Page):
 
     def tab(self, panel):
         """Chooses the tab of a panel."""
+        self.driver.execute_script("window.scrollTo(0, 0)")
         self.driver.find_element(By.CSS_SELECTOR, f"[aria-controls={panel}]").click()
 
     def shown(self, found):

@@ -72,7 +72,7 @@ def refused_scans(driver, fake):
     desk.keys("1", Keys.ENTER, "2", Keys.ENTER, "3", Keys.ENTER, "4", Keys.ENTER)
     until("a refusal", lambda: desk.told() == "copy 2: There is no such copy.")
     need("it looks like one, and is heard", (desk.is_wrong(), driver.execute_script("return window.notes") > 0), (True, True))
-    need("a screen reader is told at once", desk.it("told").get_attribute("aria-live"), "assertive")
+    until("a screen reader is told at once", lambda: desk.it("spoken-now").get_attribute("textContent") == "copy 2: There is no such copy.")
     until("what waits stays", lambda: desk.items("waiting") == ["copy 3", "copy 4"])
     desk.keys("6", Keys.ENTER)
     need("what is scanned meanwhile waits too", (desk.items("waiting"), [it for it in fake.words() if it.startswith("check-in")]), (["copy 3", "copy 4", "copy 6"], ["check-in 1 1", "check-in 2 1"]))
@@ -448,7 +448,7 @@ def library_day(driver, fake):
     """The day at the head, on receipts and on lists is the library's, loudly where it isn't the machine's."""
     machine, fake.day = fake.day, "2026-03-02"
     desk = Desk(driver, fake.url, 1)
-    fake.says(answers({"begin-day": reply("ok"), "pulls": reply("end")}))
+    fake.says(answers({"begin-day": reply("ok"), "pulls": reply("hold 1 copy 11 title 7 Tides\nend")}))
     until("the library's day", lambda: desk.it("place").text == "Town library, branch 1, 2026-03-02")
 
     def looks():
@@ -720,10 +720,10 @@ def lists(driver, fake):
     # two lists are asked for, and the first is answered last
     for value in ("pulls", "debts"):
         desk.press(value)
-    until("none", lambda: desk.it("list-told").text == "There are none.")
+    until("none, in one line", lambda: desk.it("list-told").text == "Patrons who owe: There are none.")
     late.set()
     time.sleep(0.5)
-    need("the list that was asked for last", (desk.it("list-head").text, rows(desk)), ("Patrons who owe", []))
+    need("the list that was asked for last, without a table", (desk.it("list-told").text, desk.it("list-paper").is_displayed(), rows(desk)), ("Patrons who owe: There are none.", False, []))
     for value, told in (("transits", "There is no such branch."), ("overdue", "This page can't read the answer (status 200). It is not known whether the request was carried out.")):
         desk.press(value)
         until(told, lambda: desk.it("list-told").text == told)
@@ -740,10 +740,10 @@ def lists(driver, fake):
     desk.type("looked-patron", "P2")
     desk.press("account")
     until("an answer that isn't understood", lambda: "(status 403)" in desk.it("list-told").text)
-    for value, of in (("branches", "1 Main Sun 5"), ("closed-days", None)):
-        desk.press(value)
-        until(value, lambda: rows(desk) == ([of] if of else []))
-    need("the branch that they are of", desk.it("list-head").text, "Days closed singly, branch 1")
+    desk.press("branches")
+    until("branches", lambda: rows(desk) == ["1 Main Sun 5"])
+    desk.press("closed-days")
+    until("none of the branch that they are of", lambda: desk.it("list-told").text == "Days closed singly, branch 1: There are none.")
     desk.type("ruled", "2")
     desk.it("ruled").send_keys(Keys.ENTER)
     until("no such kind", lambda: desk.it("list-told").text == "There is no such kind of patron.")
@@ -785,6 +785,11 @@ def tabs(driver, fake):
     desk.type("looked-patron", "x")
     desk.press("account")
     need("what is wrong is told here, without the list", (desk.it("list-told").text[:14], desk.it("list-told").is_displayed(), desk.it("list-paper").is_displayed()), ("This should be", True, False))
+    desk.keys("x")
+    desk.it("scan").clear()
+    desk.keys("20", Keys.ENTER)
+    until("a scan", lambda: "check-in 20 1" in fake.words() and not desk.it("queue").is_displayed())
+    need("the list doesn't come here by it", (desk.it("list-told").text[:14], desk.it("list-paper").is_displayed()), ("This should be", False))
     desk.it("sign-out").click()
     need("nothing can be scanned, nor anybody sign out", [desk.it(it).is_displayed() for it in ("scanning", "desk", "sign-out")], [False] * 3)
 
@@ -854,7 +859,7 @@ def acting(driver, fake):
     desk = Desk(driver, fake.url, 1)
     carr, roads = "patron 2 owed 1300 name Bo Carr", "copy 20 home 1 kind 1 price 1200 title 200 Salt Roads"
     fake.says(answers({"page 2": reply(f"{carr}\nloan 5 due 2026-03-09 renewals 1 title 200 Salt Roads\nhold 7 at 1 waiting title 300 Maps"), "renew 5": reply("loan 5 due 2026-03-16"), "cancel-hold 7": reply("ok"),
-                       "borrower 2": reply(f"{carr}\nkind 3"), "debts 0": reply(f"{carr}\nend"), "account 2": reply(f"{carr}\nend"), "waive 2": reply("owed 0"), "amend-patron": [refusal(17), reply("ok")],
+                       "borrower 2": reply(f"{carr}\nkind 3"), "debts 0": reply(f"{carr}\nend"), "account 2": reply(f"{carr}\nend"), "waive 2": reply("owed 0"), "amend-patron": [refusal(17), reply("ok")], "patron 9": reply("ok"),
                        "copy 20": reply(f"{roads}\nloan 5 due 2026-03-09 patron 2 Bo Carr"), "missing 20": reply("fine 0 price 1200"), "loans 20": reply("loan 5 patron 2 made 2026-03-02 due 2026-03-09\nend"),
                        "acquire": [refusal(20), reply("ok")], "close-day": reply("ok"), "week": reply("ok"), "closed-days 2": reply("day 2026-12-24\nend"), "open-day": reply("ok"),
                        "branches 0": reply("branch 1 pickup 5 week ooooooc name Main\nbranch 2 pickup 3 week coooooc name Harbour\nend")}))
@@ -924,6 +929,17 @@ def acting(driver, fake):
     fill("amend-patron", kind="1")
     until("it is amended", lambda: "amend-patron 2 1 Bo Özil" in fake.words())
     until("nothing is wrong any more", lambda: problems("amend-patron") == [] and desk.it("amend-patron-name").get_attribute("value") == "")
+    # a card key that was given can be read until the next patron comes, and is kept nowhere
+    fill("patron", patron="9", kind="1", name="Ida Jo")
+    need("a key is wanted", problems("patron"), ["This should be 8 to 32 letters and digits."])
+    driver.find_element(By.CSS_SELECTOR, "#form-patron .field button").click()
+    made = desk.it("patron-card-key").get_attribute("value")
+    fill("patron")
+    until("it is given", lambda: f"patron 9 1 {made} Ida Jo" in fake.words() and desk.it("form-patron").find_element(By.CLASS_NAME, "given").text == f"Card key of patron 9: {made}")
+    need("the form is empty, and the key is kept nowhere", (desk.it("patron-card-key").get_attribute("value"), made in str(desk.stored()), made in str(desk.items("last"))), ("", False, False))
+    driver.execute_script("scrollTo(0, 0)")
+    desk.it("next").click()
+    need("it is gone", made in driver.execute_script("return document.body.innerText"), False)
     # a copy: looked up, reported as missing with what it costs
     desk.type("looked", "C20")
     desk.press("copy")
@@ -983,6 +999,123 @@ def german(driver, fake):
         need("the patron's page", (page.it("sign-in").text.split("\n")[0], driver.execute_script("return document.documentElement.lang")), ("Ausweisnummer", "de"))
     finally:
         driver.execute_cdp_cmd("Network.setUserAgentOverride", {"userAgent": agent, "acceptLanguage": "en-US,en"})
+
+
+def for_everybody(driver, fake):
+    """One place speaks what can wait and one what can't, once a scan; whatever is pressed is large enough, and where the focus is is seen."""
+    desk = Desk(driver, fake.url, 1)
+    slow = {"check-in 1": reply("fine 0 shelf 1"), "check-in 2": refusal(13), "copy 2": refusal(13), "check-in 3": reply("fine 0 ready 7 at 1 until 2026-03-07"), "check-in 4": reply("fine 0 shelf 1"),
+            "copy 3": reply("copy 3 home 1 kind 1 price 100 title 7 Tides\nready 7 at 1 until 2026-03-07 patron 1 Ann Bell", 0.1), "page 1": reply("patron 1 owed 40 name Ann Bell\nloan 5 due 2026-03-09 renewals 1 title 7 Tides\nhold 7 at 1 waiting title 8 Maps"),
+            "debts 0": reply("end"), "find-patrons 0 bell": reply("patron 1 owed 40 name Ann Bell\nend"), "pulls": reply("hold 1 copy 11 title 7 Tides\nend")}
+    fake.says(answers(slow, 0.1))
+    need("what speaks", driver.execute_script("return [...document.querySelectorAll('[aria-live], [role=status], [role=alert], output')].map((it) => it.ariaLive)"), ["polite", "assertive"])
+    driver.execute_script("window.spoken = []; for (const it of document.querySelectorAll('[aria-live]')) new MutationObserver(() => window.spoken.push([it.ariaLive, it.textContent.trim()])).observe(it, {childList: true})")
+    desk.mode("check-in")
+    desk.keys("1", Keys.ENTER, "4", Keys.ENTER, "3", Keys.ENTER, "2", Keys.ENTER)
+    until("a refusal", lambda: desk.told() == "copy 2: There is no such copy." and desk.it("stopped").is_displayed())
+    shelf = "Tides: To the shelf, branch 1. No fine."
+    need("each scan once, and the same text again", driver.execute_script("return window.spoken"), [["polite", shelf], ["polite", shelf], ["assertive", "Tides: Ready for Ann Bell, hold 7, at branch 1 until 2026-03-07. No fine."], ["assertive", "copy 2: There is no such copy."]])
+    desk.go_on()
+    desk.mode("check-out")
+    driver.execute_script("window.spoken.length = 0")
+    desk.keys("bell")
+    until("what is found is spoken, too", lambda: driver.execute_script("return window.spoken") == [["polite", "1 found. Choose one by the arrow keys and Enter."]])
+    desk.keys(Keys.ENTER)
+    until("the page", lambda: desk.it("patron").is_displayed())
+    desk.press("debts")
+    until("an empty list is spoken", lambda: driver.execute_script("return window.spoken").count(["polite", "Patrons who owe: There are none."]) == 1)
+    # what is pressed or chosen, in each tab, on a telephone and on a desk
+    small = """return [...document.querySelectorAll('button, select, summary, input, [role=option]')].filter((it) => it.checkVisibility()).map((it) => it.closest('label') && ['radio', 'checkbox'].includes(it.type) ? it.closest('label') : it)
+        .filter((it) => { const at = it.getBoundingClientRect(); return at.height < 44 || at.width < 44; }).map((it) => it.outerHTML.slice(0, 90))"""
+    unseen = """const found = []; for (const it of document.querySelectorAll('button, select, summary, input')) { if (!it.checkVisibility()) continue; it.focus({focusVisible: true});
+        const of = getComputedStyle(it); if (document.activeElement === it && (of.outlineStyle !== 'solid' || parseFloat(of.outlineWidth) < 3)) found.push(it.outerHTML.slice(0, 90)); } return found"""
+    for panel in ("circulation", "lists", "patrons", "catalogue", "settings"):
+        desk.tab(panel)
+        if panel == "lists":
+            desk.press("pulls")
+            until("a list", lambda: len(rows(desk)) == 1)
+        driver.execute_script("for (const it of document.querySelectorAll('details')) it.open = it.checkVisibility()")
+        for pixels in (360, 1280):
+            desk.width(pixels, 900)
+            need(f"what is too small in {panel} at {pixels} pixels", driver.execute_script(small), [])
+        need(f"what doesn't show that it has the focus in {panel}", driver.execute_script(unseen), [])
+    need("headings in order", driver.execute_script("return [...document.querySelectorAll('h1, h2, h3, h4')].map((it) => it.tagName).filter((it, at, all) => at > 0 && Number(it[1]) > Number(all[at - 1][1]) + 1)"), [])
+    driver.execute_cdp_cmd("Emulation.clearDeviceMetricsOverride", {})
+    # dark where the system is
+    driver.execute_cdp_cmd("Emulation.setEmulatedMedia", {"features": [{"name": "prefers-color-scheme", "value": "dark"}]})
+    need("dark", driver.execute_script("const it = getComputedStyle(document.body); return [it.color, it.backgroundColor]"), ["rgb(242, 242, 242)", "rgb(22, 22, 22)"])
+    driver.execute_cdp_cmd("Emulation.setEmulatedMedia", {"features": []})
+
+
+def patrons_page(driver, fake):
+    """A patron comes from a catalogue with a title, renews all, keeps the focus, and saves the due days; password managers know the fields."""
+    left = {"11": 1, "12": 1, "13": 0, "14": 2}
+    late = threading.Event()
+
+    def answer(what):
+        if what == "GET /patrons/1":
+            return reply("\n".join([PAGE["1"], *(f"loan {loan} due 2026-03-09 renewals {renewals} title {loan} Title {loan}" for loan, renewals in left.items())]), 0.05)
+        if what == "POST /patrons/1/loans/12/renew":
+            return refusal(36, 0.05)
+        if what == "POST /patrons/1/loans/11/renew" and not late.is_set():
+            late.wait(30)
+        loan = what.split("/")[4] if "/loans/" in what else None
+        if loan:
+            left[loan] -= 1
+            return reply(f"loan {loan} due 2026-03-16")
+        return reply("hold 7")
+    fake.says(answer)
+    page = Page(driver, f"{fake.url}/pages/patron.html#hold=300", "My library card")
+    need("what a password manager fills in", [page.it(it).get_attribute("autocomplete") for it in ("number", "card-key")], ["username", "current-password"])
+    need("what speaks", driver.execute_script("return [...document.querySelectorAll('[aria-live], [role=status], [role=alert], output')].map((it) => it.ariaLive)"), ["polite", "assertive"])
+    enter(page, "C1")
+    need("a copy is no card", page.told(), "This is a copy, but a patron's card is expected.")
+    page.type("number", "p1")
+    page.it("number").send_keys(Keys.ENTER)
+    until("the page", lambda: page.it("page").is_displayed())
+    need("the title of the catalogue, and the focus", (page.it("title").get_attribute("value"), page.focus()), ("300", "branch"))
+    page.keys("x", Keys.ENTER)
+    need("no branch", page.told(), "This should be the name of a branch, or its number.")
+    page.type("branch", "1")
+    page.keys(Keys.ENTER)
+    until("a hold", lambda: any(it.startswith('POST /patrons/1/holds {"branch":1,"title":300}') for it in fake.words()))
+    until("it is told", lambda: page.told() == "Hold 7 is placed.")
+    driver.execute_script("location.hash = '#hold=x'")
+    driver.execute_script("location.hash = '#hold=400'")
+    until("another title", lambda: page.it("title").get_attribute("value") == "400")
+    # the focus stays where its button is, and goes to the head of the list where it is gone
+    button = lambda loan: driver.find_element(By.CSS_SELECTOR, f'[data-path="/loans/{loan}/renew"]')
+    button(14).send_keys(Keys.ENTER)
+    until("renewed", lambda: page.told() == "Loan 14, due 2026-03-16." and left["14"] == 1)
+    until("the same button", lambda: driver.execute_script("return document.activeElement.dataset.path") == "/loans/14/renew")
+    time.sleep(0.7)
+    driver.execute_script("window.spoken = []; for (const it of document.querySelectorAll('[aria-live]')) new MutationObserver(() => window.spoken.push([it.ariaLive, it.textContent.trim()])).observe(it, {childList: true})")
+    page.it("renew-all").click()
+    until("the first one", lambda: "POST /patrons/1/loans/11/renew" in fake.words())
+    late.set()
+    until("all that can be", lambda: page.told() == "2 of 3 renewed. Title 12: Another patron is waiting for this title.")
+    need("once each, and no other", [it.split("/")[4] for it in fake.words() if "/loans/" in it], ["14", "11", "12", "14"])
+    need("it is spoken once", driver.execute_script("return window.spoken"), [["assertive", "2 of 3 renewed. Title 12: Another patron is waiting for this title."]])
+    until("one is left, so there is no button for all", lambda: not page.it("renew-all").is_displayed())
+    need("the focus", page.focus(), "loans-head")
+    left["12"] = 0
+    time.sleep(0.7)
+    button(12).send_keys(Keys.ENTER)
+    until("a refusal, and no button any more", lambda: driver.find_elements(By.CSS_SELECTOR, "#loans button") == [])
+    until("the head of the list", lambda: page.focus() == "loans-head")
+    # the due days
+    driver.execute_script("window.saved = []; const make = URL.createObjectURL; URL.createObjectURL = (blob) => { blob.text().then((text) => window.saved.push(blob.type, text)); return make.call(URL, blob); }")
+    page.it("save-days").click()
+    until("it is saved", lambda: len(driver.execute_script("return window.saved")) == 2)
+    kind, text = driver.execute_script("return window.saved")
+    need("what is saved", (kind, text.count("BEGIN:VEVENT"), "DTSTART;VALUE=DATE:20260309\r\nSUMMARY:Due: Title 13\r\n" in text), ("text/calendar;charset=utf-8", 4, True))
+    for pixels in (360, 1280):
+        page.width(pixels, 900)
+        need(f"what is too small at {pixels} pixels", driver.execute_script("return [...document.querySelectorAll('button, input')].filter((it) => it.checkVisibility() && it.getBoundingClientRect().height < 44).map((it) => it.outerHTML)"), [])
+    driver.execute_cdp_cmd("Emulation.clearDeviceMetricsOverride", {})
+    need("320 pixels", page.fits(320), True)
+    page.it("sign-out").click()
+    need("nothing is kept", (page.stored(), page.it("loans").text), ({}, ""))
 
 
 def past_their_day(driver, fake):
@@ -1065,7 +1198,7 @@ def another_day(driver, fake):
     need("320 pixels", desk.fits(320), True)
 
 
-PARTS = (tabs, searching, acting, german, lists, past_their_day, slips, fast_scans, refused_scans, unread_answers, receipts, signed_out, telephone, opening, scanners, hands_at_the_desk, another_day, loaded_anew, nobody_stays, panel_of_now, library_day, names, next_patron, closed_pages, keys_anywhere, misread)
+PARTS = (tabs, searching, acting, german, for_everybody, patrons_page, lists, past_their_day, slips, fast_scans, refused_scans, unread_answers, receipts, signed_out, telephone, opening, scanners, hands_at_the_desk, another_day, loaded_anew, nobody_stays, panel_of_now, library_day, names, next_patron, closed_pages, keys_anywhere, misread)
 
 
 def main():
