@@ -22,6 +22,7 @@ import { TEXTS, branchName, fillIn, say } from "./texts.js";
 import { silence, speak } from "./voice.js";
 import { listenForWords } from "./word_line.js";
 import { Work } from "./work.js";
+import { YearView } from "./year_view.js";
 
 const DESK = "circ.desk-key";
 const MINUTE = 60_000;
@@ -90,6 +91,7 @@ const screen = {
     forms.ended(words, refusal);
     if (refusal !== null) return;
     listEnded(openDesk(), words);
+    year.ended(words);
     if (["branch", "amend-branch"].includes(words[0])) learnBranches();
   },
 };
@@ -114,9 +116,12 @@ function showBranches(rows) {
   if (rows !== null) branches.learn(rows);
   const offered = branches.all.length > 0 ? branches.all : [[branch, branchName(branch)]];
   forms.offer(offered, branch);
+  year.offer(offered, branch);
   offerBranches();
   showDay();
 }
+
+const year = new YearView(openDesk);
 
 // The branches that this machine knows, for whoever signs in.
 function offerBranches() {
@@ -218,6 +223,7 @@ it("sign-out").addEventListener("click", () => {
   clearNotes();
   for (const form of document.forms) form.reset();
   forms.clear();
+  year.clear();
   it("branch").value = branches.here;
   showMode("check-out");
   showTab("circulation");

@@ -24,6 +24,7 @@ import { placeAfter } from "../../pages/tabs.js";
 import { problemOfWords } from "../../pages/misread.js";
 import { BRANCHES, TEXTS, branchName } from "../../pages/texts.js";
 import { Work } from "../../pages/work.js";
+import { monthsFrom, weeksOf } from "../../pages/year.js";
 import { Kept, network } from "../lib/network.mjs";
 
 let tried = 0;
@@ -970,6 +971,15 @@ for (const [day, branches, branch, problem, rows, words] of [
   is([found.problem, found.rows?.length ?? null, askedOfDesk], [problem, rows, [["today"], ["branches", "0"]].slice(0, words)]);
 }
 is([await lookFirst(async () => null, "1"), await lookFirst(async ([name]) => (name === "today" ? todays : null), "1")], [null, null]);
+
+// ---- the calendar of a year: each day once, in its weekday, and what it is
+const months = monthsFrom("2027-11-30", "ooooooc", ["2027-12-24", "2028-02-29", "2027-11-29", "2027-12-05"]);
+const days = months.flat();
+is([months.length, days.length, days[0].day, days.at(-1).day, new Set(days.map(({ day }) => day)).size], [12, 366, "2027-11-01", "2028-10-31", 366]);
+is(days.filter(({ state }) => state === "closed").map(({ day }) => day), ["2027-12-05", "2027-12-24", "2028-02-29"]);
+is([days.filter(({ state }) => state === "over").length, days.find(({ day }) => day === "2027-12-12").state, days.find(({ day }) => day === "2027-12-01").state], [30, "weekly", "open"]);
+is(weeksOf(months[1]).map((week) => week.map((it) => it?.day.slice(8) ?? "").join(" ").trim()), ["01 02 03 04 05", "06 07 08 09 10 11 12", "13 14 15 16 17 18 19", "20 21 22 23 24 25 26", "27 28 29 30 31"]);
+is(months.flatMap(weeksOf).every((week) => week.length === 7 && week.every((it, place) => it === null || it.place === place)), true);
 
 // ---- the arrow keys go round among the tabs, and other keys to none
 is([["ArrowRight", 0], ["ArrowRight", 4], ["ArrowLeft", 4], ["ArrowLeft", 0], ["Home", 3], ["End", 0], ["Enter", 1], ["4", 1], ["toString", 1]].map(([key, place]) => placeAfter(key, place, 5)), [1, 0, 3, 4, 0, 4, null, null, null]);

@@ -1118,6 +1118,51 @@ def patrons_page(driver, fake):
     need("nothing is kept", (page.stored(), page.it("loans").text), ({}, ""))
 
 
+def calendar_of_year(driver, fake):
+    """A year of a branch: a day to come is closed by a press and opened by another one, and keeps the focus; days that are over, or closed each week, can't be pressed."""
+    closed, fake.day = ["2027-12-24"], "2027-11-30"
+
+    def answer(what):
+        if what == "branches 0":
+            return reply("branch 1 pickup 5 week ooooooc name Main\nbranch 2 pickup 3 week coooooo name Harbour\nend")
+        if what.startswith("closed-days 2"):
+            return reply("\n".join([*(f"day {it}" for it in sorted(closed)), "end"]))
+        if what.startswith("close-day 2"):
+            closed.append(what.split()[2])
+        elif what.startswith("open-day 2"):
+            closed.remove(what.split()[2])
+        else:
+            return answers({})(what)
+        return reply("ok")
+    fake.says(answer)
+    desk = Desk(driver, fake.url, 1)
+    until("the names of the branches", lambda: desk.it("place").text.split(", ")[1:2] == ["Main"])
+    desk.field("year-branch").send_keys("Harbour")
+    driver.find_element(By.CSS_SELECTOR, "#year-of button").click()
+    until("the year", lambda: desk.it("year").is_displayed())
+    months = driver.find_elements(By.CSS_SELECTOR, "#year-months caption")
+    need("its months", (desk.it("year-head").text, len(months), months[0].text, months[-1].text), ("Calendar of Harbour", 12, "November 2027", "October 2028"))
+    day = lambda text: driver.find_element(By.CSS_SELECTOR, f"#year-months [data-day='{text}']")
+    states = lambda *texts: [tuple(it) for it in driver.execute_script("return arguments[0].map((it) => document.querySelector(`#year-months [data-day='${it}']`)).map((it) => [it.ariaLabel, it.ariaPressed])", texts)]
+    need("a closed day and an open one", states("2027-12-24", "2027-12-25"), [("2027-12-24: closed", "true"), ("2027-12-25: open", "false")])
+    need("what can't be pressed: what is over, and each Monday", [len(driver.find_elements(By.CSS_SELECTOR, f"#year-months .{it}")) for it in ("over", "weekly")], [30, 48])
+    need("no day is pressed that is over", driver.find_elements(By.CSS_SELECTOR, "#year-months [data-day='2027-11-30'], #year-months [data-day='2027-12-06']"), [])
+    day("2027-12-25").send_keys(Keys.ENTER)
+    until("it is closed", lambda: states("2027-12-25") == [("2027-12-25: closed", "true")])
+    need("the focus stays", driver.execute_script("return document.activeElement.dataset.day"), "2027-12-25")
+    day("2027-12-24").click()
+    until("another one is opened", lambda: states("2027-12-24") == [("2027-12-24: open", "false")])
+    need("what was sent", [it for it in fake.words() if "-day " in it], ["close-day 2 2027-12-25", "open-day 2 2027-12-24"])
+    desk.keys("7")
+    need("keys go to the line", desk.focus(), "scan")
+    for pixels in (360, 1280):
+        desk.width(pixels, 900)
+        need(f"days that are too small at {pixels} pixels", driver.execute_script("return [...document.querySelectorAll('#year-months button')].filter((it) => { const at = it.getBoundingClientRect(); return at.width < 44 || at.height < 44; }).length"), 0)
+    driver.execute_cdp_cmd("Emulation.clearDeviceMetricsOverride", {})
+    need("no name is empty, and it fits a telephone", ([it for it in desk.names() if not it[1]], desk.fits(360)), ([], True))
+    fake.day = time.strftime("%Y-%m-%d")
+
+
 def past_their_day(driver, fake):
     """Ready holds that are past their day have a button each, and one for all; each is unshelved once."""
     desk = Desk(driver, fake.url, 1)
@@ -1198,7 +1243,7 @@ def another_day(driver, fake):
     need("320 pixels", desk.fits(320), True)
 
 
-PARTS = (tabs, searching, acting, german, for_everybody, patrons_page, lists, past_their_day, slips, fast_scans, refused_scans, unread_answers, receipts, signed_out, telephone, opening, scanners, hands_at_the_desk, another_day, loaded_anew, nobody_stays, panel_of_now, library_day, names, next_patron, closed_pages, keys_anywhere, misread)
+PARTS = (tabs, searching, acting, german, for_everybody, patrons_page, calendar_of_year, lists, past_their_day, slips, fast_scans, refused_scans, unread_answers, receipts, signed_out, telephone, opening, scanners, hands_at_the_desk, another_day, loaded_anew, nobody_stays, panel_of_now, library_day, names, next_patron, closed_pages, keys_anywhere, misread)
 
 
 def main():
