@@ -111,6 +111,8 @@ def main():
         check(f"{name} has a script or a style of its own within", re.findall(r"<style|<script(?! type=\"module\" src=)|\son\w+=|\sstyle=", text), [])
         for file in re.findall(r'(?:src|href)="([^"]*)"', text):
             check(f"{name} names {file}", os.path.exists(os.path.join(TOP, "pages", file)), True)
+        asked_for = re.findall(r'rel="modulepreload" href="([^"]*)"', text)
+        check(f"what {name} loads at once", asked_for, sorted(set(loaded(f"{name[:-5]}.js")) - {f"{name[:-5]}.js"}))
         ids = re.findall(r'\sid="([^"]*)"', text)
         check(f"{name} has an id twice", len(ids), len(set(ids)))
         for script in loaded(f"{name[:-5]}.js"):
