@@ -1039,6 +1039,8 @@ def for_everybody(driver, fake):
             desk.width(pixels, 900)
             need(f"what is too small in {panel} at {pixels} pixels", driver.execute_script(small), [])
         need(f"what doesn't show that it has the focus in {panel}", driver.execute_script(unseen), [])
+        need(f"forms with more than one button that stands out in {panel}", driver.execute_script("""const isLoud = (it) => it.checkVisibility() && getComputedStyle(it).backgroundColor === getComputedStyle(document.body).color;
+            return [...document.querySelectorAll('form')].filter((form) => [...form.querySelectorAll('button')].filter(isLoud).length > 1).map((form) => form.id)"""), [])
     need("headings in order", driver.execute_script("return [...document.querySelectorAll('h1, h2, h3, h4')].map((it) => it.tagName).filter((it, at, all) => at > 0 && Number(it[1]) > Number(all[at - 1][1]) + 1)"), [])
     driver.execute_cdp_cmd("Emulation.clearDeviceMetricsOverride", {})
     # dark where the system is
