@@ -177,3 +177,15 @@ class Desk(Page):
             self.it("send-on").click()
             time.sleep(0.1)
         raise Failed("never: the queue goes on")
+
+
+def rows(desk):
+    """The rows of the list that is shown."""
+    return desk.items("list-rows")
+
+
+def enter(page, number):
+    """Signs a patron in."""
+    page.type("number", number)
+    page.type("card-key", f"cardkey0000{number}")
+    page.keys(Keys.ENTER)

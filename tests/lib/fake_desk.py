@@ -24,6 +24,30 @@ def fault(number, seconds=0.0):
 
 UNKNOWN = (0.0, 404, json.dumps({"status": 404}))
 NOTHING = None  # the connection is closed with no answer
+PAGE = {"1": "patron 1 owed 0 name Ann Bell", "4": "patron 4 owed 0 name Di Eck"}
+
+
+def answers(table, seconds=0.0):
+    """Answers by the words that a request begins with; each list is used up to its last, which stays."""
+    left = {words: list(found) if isinstance(found, list) else [found] for words, found in table.items()}
+
+    def answer(what):
+        for words, found in left.items():
+            if what == words or what.startswith((f"{words} ", f"{words}/")):
+                told = found.pop(0) if len(found) > 1 else found[0]
+                return (told[0] or seconds, *told[1:]) if told else NOTHING
+        if what == "today":
+            return UNKNOWN
+        if what == "branches 0":
+            return refusal(81)  # as a clerk who lends alone is answered
+        if what.startswith("shelf "):
+            return reply("      hold    copy  patron until      title\nend", seconds)
+        if what.startswith("copy "):
+            return reply(f"copy {what.split()[1]} home 1 kind 1 price 100 title 7 Tides\nshelf 1", seconds)
+        if what.startswith("page ") and what.split()[1] in PAGE:
+            return reply(PAGE[what.split()[1]], seconds)
+        return refusal(13, seconds)
+    return answer
 
 
 class FakeDesk:
