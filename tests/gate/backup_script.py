@@ -629,8 +629,8 @@ def a_full_disk(folder):
 
 
 def full_for_others(machine):
-    """What makes a library, restores one, or writes what one has or a spreadsheet's list, tells it in words, and leaves
-    nothing."""
+    """What makes a library, restores one, or writes what one has or a spreadsheet's list, tells it in words, and
+    leaves nothing."""
     full, backup = machine.backups, os.path.join(machine.backups, machine.there()[0])
     try:
         with open(f"{full}/fill", "wb", buffering=0) as file:

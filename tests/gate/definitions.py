@@ -94,7 +94,8 @@ def lemmas_of(histories):
 
 
 def errors_of(words, lemmas):
-    """The lemmas that a check of a copy of the crate with them rejects, those that it gives up as they take too many steps, and whether it came to an end."""
+    """The lemmas that a check of a copy of the crate with them rejects, those that it gives up as they take too many
+    steps, and whether it came to an end."""
     with tempfile.TemporaryDirectory(prefix="definitions-") as room:
         for part in PARTS:
             shutil.copytree(f"{TOP}/crates/model/{part}", f"{room}/{part}")

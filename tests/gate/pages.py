@@ -1,6 +1,7 @@
 #!/usr/bin/env python3
-"""Compares the pages for browsers with the program: each number that it tells has a sentence, the table of commands stands in both, the pages name nothing that
-isn't theirs, the modules that read replies are run on every form, and the work of a desk is done as fast as the fastest hand, over the slowest network.
+"""Compares the pages for browsers with the program: each number that it tells has a sentence, the table of commands
+stands in both, the pages name nothing that isn't theirs, the modules that read replies are run on every form, and the
+work of a desk is done as fast as the fastest hand, over the slowest network.
 
     tests/gate/pages.py
 """
@@ -45,13 +46,15 @@ def kinds():
 
 
 def wanted():
-    """What a word of each kind must be, of the program and of the pages. Only an amount is typed there as it is shown, and not in cents."""
+    """What a word of each kind must be, of the program and of the pages. Only an amount is typed there as it is shown,
+    and not in cents."""
     program = [it for it in re.findall(r'PartKind::(\w+) => \{?\s*"([^"]*)"', read("crates/messages/src/misread.rt")) if it[0] != "Amount"]
     return program, [(kind, text) for kind, text in re.findall(r'^  must([A-Z]\w*): "([^"]*)",$', read("pages/texts.js"), re.MULTILINE) if kind != "Be"]
 
 
 def colours():
-    """The colours of the style by their names, where the system is light and where it is dark, and those that stand outside of these."""
+    """The colours of the style by their names, where the system is light and where it is dark, and those that stand
+    outside of these."""
     light, dark, rest = re.fullmatch(r"(?s).*?:root \{(.*?)\}.*?prefers-color-scheme: dark\) \{\s*:root \{(.*?)\}(.*)", read("pages/style.css")).groups()
     return [dict(re.findall(r"--(\w+): (#[0-9a-f]{6});", it)) for it in (light, dark)], re.findall(r"#[0-9a-f]{3,8}\b|rgba?\(|hsla?\(", rest)
 

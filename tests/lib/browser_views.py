@@ -1,5 +1,5 @@
-"""What the pages show, in Chromium before a server that answers as each part says: tabs, searches, forms and buttons, languages, what everybody needs, and the patron's page. They are run by
-`tests/tools/browser_hands.py`."""
+"""What the pages show, in Chromium before a server that answers as each part says: tabs, searches, forms and buttons,
+languages, what everybody needs, and the patron's page. They are run by `tests/tools/browser_hands.py`."""
 
 import threading
 import time
@@ -12,7 +12,8 @@ from lib.fake_desk import PAGE, answers, refusal, reply
 
 
 def tabs(driver, fake):
-    """One panel is shown, and the arrow keys choose among them; a scan goes to its line from each, and what is asked in one stays there."""
+    """One panel is shown, and the arrow keys choose among them; a scan goes to its line from each, and what is asked
+    in one stays there."""
     desk = Desk(driver, fake.url, 1)
     fake.says(answers({"check-in": reply("fine 0 shelf 1"), "pulls": reply("hold 1 copy 11 title 7 Tides\nend")}))
     panels = ["circulation", "lists", "patrons", "catalogue", "settings"]
@@ -54,7 +55,8 @@ def tabs(driver, fake):
 
 
 def searching(driver, fake):
-    """Letters in the line search for patrons, or for titles in Hold; the last answer is shown, and the arrow keys and Enter choose."""
+    """Letters in the line search for patrons, or for titles in Hold; the last answer is shown, and the arrow keys and
+    Enter choose."""
     desk, late = Desk(driver, fake.url, 1), threading.Event()
     fake.says(answers({"find-patrons 0 be": reply("end", late), "find-patrons 0 bell": reply("patron 1 owed 40 name Ann Bell\npatron 4 owed 0 name Di Bell\nafter 4"), "find-patrons 4 bell": reply("patron 9 owed 0 name Zoë Bell\nend"),
                        "find-patrons 0 eck": reply("patron 4 owed 0 name Di Eck\nend"), "find-patrons 0 zz": reply("end"), "find-patrons 0 ann": refusal(81), "find-titles 0 riv": reply("title 100 Rivers of the North\nend"),
@@ -114,7 +116,8 @@ def searching(driver, fake):
 
 
 def acting(driver, fake):
-    """What can be done with a row or with what the patron has is done by its button; what can't be undone is asked about first, and a form is filled in and tells what is wrong at its field."""
+    """What can be done with a row or with what the patron has is done by its button; what can't be undone is asked
+    about first, and a form is filled in and tells what is wrong at its field."""
     desk = Desk(driver, fake.url, 1)
     carr, roads = "patron 2 owed 1300 name Bo Carr", "copy 20 home 1 kind 1 price 1200 title 200 Salt Roads"
     fake.says(answers({"page 2": reply(f"{carr}\nloan 5 due 2026-03-09 renewals 1 title 200 Salt Roads\nhold 7 at 1 waiting title 300 Maps"), "renew 5": reply("loan 5 due 2026-03-16"), "cancel-hold 7": reply("ok"),
@@ -261,7 +264,8 @@ def german(driver, fake):
 
 
 def for_everybody(driver, fake):
-    """One place speaks what can wait and one what can't, once a scan; whatever is pressed is large enough, and where the focus is is seen."""
+    """One place speaks what can wait and one what can't, once a scan; whatever is pressed is large enough, and where
+    the focus is is seen."""
     desk = Desk(driver, fake.url, 1)
     slow = {"check-in 1": reply("fine 0 shelf 1"), "check-in 2": refusal(13), "copy 2": refusal(13), "check-in 3": reply("fine 0 ready 7 at 1 until 2026-03-07"), "check-in 4": reply("fine 0 shelf 1"),
             "copy 3": reply("copy 3 home 1 kind 1 price 100 title 7 Tides\nready 7 at 1 until 2026-03-07 patron 1 Ann Bell", 0.1), "page 1": reply("patron 1 owed 40 name Ann Bell\nloan 5 due 2026-03-09 renewals 1 title 7 Tides\nhold 7 at 1 waiting title 8 Maps"),
@@ -309,7 +313,8 @@ def for_everybody(driver, fake):
 
 
 def patrons_page(driver, fake):
-    """A patron comes from a catalogue with a title, renews all, keeps the focus, and saves the due days; password managers know the fields."""
+    """A patron comes from a catalogue with a title, renews all, keeps the focus, and saves the due days; password
+    managers know the fields."""
     left = {"11": 1, "12": 1, "13": 0, "14": 2}
     late = threading.Event()
 
@@ -380,7 +385,8 @@ def patrons_page(driver, fake):
 
 
 def calendar_of_year(driver, fake):
-    """A year of a branch: a day to come is closed by a press and opened by another one, and keeps the focus; days that are over, or closed each week, can't be pressed."""
+    """A year of a branch: a day to come is closed by a press and opened by another one, and keeps the focus; days that
+    are over, or closed each week, can't be pressed."""
     closed, fake.day = ["2027-12-24"], "2027-11-30"
 
     def answer(what):

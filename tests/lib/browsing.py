@@ -1,4 +1,5 @@
-"""Chromium before the pages: what the tests in a browser have in common. It needs selenium and a driver, which tests/tools/outside installs."""
+"""Chromium before the pages: what the tests in a browser have in common. It needs selenium and a driver, which
+tests/tools/outside installs."""
 
 import time
 

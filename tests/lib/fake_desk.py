@@ -52,8 +52,9 @@ def answers(table, seconds=0.0):
 
 class FakeDesk:
     """`answer(what)` gives a time, a status and a body for the words of a desk's request, or for the method and the
-    path of a patron's; `sent` is what came. A time is in seconds, or an event that is waited for. The library's day and
-    its branches are asked at any time, so they aren't among what came; the day is answered where a test doesn't."""
+    path of a patron's; `sent` is what came. A time is in seconds, or an event that is waited for. The library's day
+    and its branches are asked at any time, so they aren't among what came; the day is answered where a test
+    doesn't."""
 
     def __init__(self, pages):
         self.day, self.pages, self.sent, self.answer = time.strftime("%Y-%m-%d"), pages, [], lambda what: UNKNOWN

@@ -1,6 +1,7 @@
 #!/usr/bin/python3
-"""A clerk's day and a patron's in a real browser: Chromium, over nginx and over Caddy with the configurations of docs/operations, before a `circ serve` of
-four workers. It is no part of the gate: `tests/tools/outside` runs it, with what it needs from the system's packages.
+"""A clerk's day and a patron's in a real browser: Chromium, over nginx and over Caddy with the configurations of
+docs/operations, before a `circ serve` of four workers. It is no part of the gate: `tests/tools/outside` runs it, with
+what it needs from the system's packages.
 
     tests/tools/browser.py             both servers
     tests/tools/browser.py --pictures  writes docs/patron-page.png and docs/desk-page.png too
@@ -101,8 +102,9 @@ REFUSALS = sentences()
 
 
 def day():
-    """What is typed on the day at the desk, with the answers: lines under a key that was typed before, files and lists of copies aside. Questions, which pass over their key, and reports are
-    all there; a report is a question whose last line tells how many rows there are."""
+    """What is typed on the day at the desk, with the answers: lines under a key that was typed before, files and lists
+    of copies aside. Questions, which pass over their key, and reports are all there; a report is a question whose last
+    line tells how many rows there are."""
     text, keys = outside.document("DAY-AT-THE-DESK.md"), set()
     for run, words, answer in re.findall(r"^\$ \./circ (file|report) day\.db (\S+ .+)\n((?:(?!\$|```).*\n)+)", text, re.M):
         if run == "report":
@@ -115,7 +117,8 @@ def day():
 
 
 class Known:
-    """Of the lines of the day so far: the titles of copies, names of patrons, whose the holds are and until when they are ready, which copies are on loan, who had each last, and who owes how much."""
+    """Of the lines of the day so far: the titles of copies, names of patrons, whose the holds are and until when they
+    are ready, which copies are on loan, who had each last, and who owes how much."""
 
     def __init__(self):
         self.of_copy, self.of_title, self.names, self.holders, self.loans, self.untils, self.borrowers, self.owed = {}, {}, {}, {}, {}, {}, {}, {}
@@ -232,7 +235,8 @@ def standing(place):
 
 
 class Clerk:
-    """Does the lines of the day as a clerk does: by scans where there is a mode for them, by the lists where they are asked, and else by words."""
+    """Does the lines of the day as a clerk does: by scans where there is a mode for them, by the lists where they are
+    asked, and else by words."""
 
     def __init__(self, driver, base):
         self.driver, self.base, self.known, self.desk = driver, base, Known(), None
@@ -339,7 +343,8 @@ class Clerk:
         found = cells(question, answer)
         until("the list is answered", lambda: desk.it("list-told").text != "Sending …")
         rows = desk.items("list-rows")
-        # a list on the page begins at its beginning, so of an account that is asked for from a line on it shows the lines before too
+        # a list on the page begins at its beginning, so of an account that is asked for from a line on it shows the
+        # lines before too
         need(line, rows[-len(found):] if parts[-1:] == ("1",) and question == "account" else rows, found)
 
     def copy(self, line, answer, copy):
@@ -386,7 +391,8 @@ def clerk(driver, base):
 
 
 def every_number(driver, desk):
-    """Each refusal and each fault is shown in the words of the page's texts; here the answers are made in the browser."""
+    """Each refusal and each fault is shown in the words of the page's texts; here the answers are made in the
+    browser."""
     numbers = re.findall(r"^\| (\d+) \|", outside.document("RULES.md"), re.M)
     need("the numbers that have words", sorted(REFUSALS), sorted(numbers))
     for number, meant in {**REFUSALS, "81": "The key is wrong, or may not do this."}.items():
@@ -440,7 +446,8 @@ def strangers(driver, base):
 
 
 def patron(driver, base, serving):
-    """Ann renews, places a hold and cancels it, by the keyboard alone; then the program is killed while a renewal is on its way."""
+    """Ann renews, places a hold and cancels it, by the keyboard alone; then the program is killed while a renewal is
+    on its way."""
     page = Page(driver, f"{base}/pages/patron.html", "My library card")
     keyboard = ActionChains(driver)
     keyboard.send_keys(Keys.TAB, "1", Keys.TAB, "cardkey99999", Keys.ENTER).perform()
@@ -516,7 +523,8 @@ def header(base):
 
 
 def town(place):
-    """The pages are installed, and the town gives its branches their names; its library has its first day and its branches."""
+    """The pages are installed, and the town gives its branches their names; its library has its first day and its
+    branches."""
     outside.need("install", outside.run(f"{TOP}/install", place).returncode == 0)
     path = f"{place}/share/circ/pages/texts.js"
     with open(path, encoding="utf-8") as file:

@@ -1,6 +1,6 @@
 #!/usr/bin/python3
-"""The pages in Chromium as fast as the fastest hand, before a server whose answers are slow, odd or none, as the test makes them. It is no part of the gate:
-`tests/tools/outside` runs it, with what it needs from the system's packages.
+"""The pages in Chromium as fast as the fastest hand, before a server whose answers are slow, odd or none, as the test
+makes them. It is no part of the gate: `tests/tools/outside` runs it, with what it needs from the system's packages.
 
     tests/tools/browser_hands.py
 """
@@ -21,7 +21,8 @@ from lib.fake_desk import NOTHING, PAGE, FakeDesk, answers, refusal, reply
 
 
 def fast_scans(driver, fake):
-    """A card and two copies are scanned before the first answer comes, and copies come in as fast as keys can be sent."""
+    """A card and two copies are scanned before the first answer comes, and copies come in as fast as keys can be
+    sent."""
     desk = Desk(driver, fake.url, 1)
     late = threading.Event()
     fake.says(answers({"page 4": reply(PAGE["4"], late), "check-out 4 31": reply("loan 1 due 2026-03-09"), "check-out 4 32": reply("loan 2 due 2026-03-09")}, 0.4))
@@ -80,7 +81,8 @@ def refused_scans(driver, fake):
 
 
 def unread_answers(driver, fake):
-    """An answer that came and isn't understood is told with its status; only where none came the same is sent again, under its key."""
+    """An answer that came and isn't understood is told with its status; only where none came the same is sent again,
+    under its key."""
     desk = Desk(driver, fake.url, 1)
     desk.mode("check-in")
     fake.says(answers({"check-in": [(0.0, 403, "<html>403 Forbidden</html>"), NOTHING, (0.0, 502, "<html>"), reply("fine 0 shelf 1")]}))
@@ -163,7 +165,8 @@ def signed_out(driver, fake):
 
 
 def telephone(driver, fake):
-    """A patron at a telephone: what was answered is on the screen, refusals look like refusals, and a double click acts once."""
+    """A patron at a telephone: what was answered is on the screen, refusals look like refusals, and a double click
+    acts once."""
     loans = "".join(f"\nloan {it} due 2026-03-09 renewals {it % 2} title {it} Title {it}" for it in range(1, 13))
     fake.says(answers({"GET /patrons/1": reply(PAGE["1"] + loans), "POST /patrons/1/loans": reply("loan 11 due 2026-03-16"), "POST /patrons/1/holds": [refusal(12), reply("hold 3")]}))
     page = sign_in(driver, fake)
@@ -217,7 +220,8 @@ def opening(driver, fake):
 
 
 def scanners(driver, fake):
-    """Whatever a scanner sends at the end of a scan, none is glued to the next, none is lost, and no patron is ended."""
+    """Whatever a scanner sends at the end of a scan, none is glued to the next, none is lost, and no patron is
+    ended."""
     desk = Desk(driver, fake.url, 1)
     fake.says(answers({"check-out": reply("loan 1 due 2026-03-09"), "check-in": reply("fine 0 shelf 1")}))
     desk.keys("P4", Keys.ENTER, Keys.ENTER, "C1", Keys.ENTER)
@@ -252,7 +256,8 @@ def scanners(driver, fake):
 
 
 def hands_at_the_desk(driver, fake):
-    """Wherever the hands of a clerk were, the next scan goes to its line, and much money is taken once the clerk says so."""
+    """Wherever the hands of a clerk were, the next scan goes to its line, and much money is taken once the clerk says
+    so."""
     desk = Desk(driver, fake.url, 1)
     fake.says(answers({"check-in": reply("fine 0 shelf 1"), "pay": reply("owed 0")}))
     ActionChains(driver).key_down(Keys.ALT).send_keys("2").key_up(Keys.ALT).perform()
@@ -324,7 +329,8 @@ def loaded_anew(driver, fake):
 
 
 def nobody_stays(driver, fake):
-    """Nothing of a patron stays on the screen after Next patron, in Check-in and where the next card isn't known, also of answers that come later."""
+    """Nothing of a patron stays on the screen after Next patron, in Check-in and where the next card isn't known, also
+    of answers that come later."""
     bo = "patron 2 owed 40 name Bo Carr\nloan 2 due 2026-03-09 renewals 0 title 200 Salt Roads"
     late = [threading.Event() for _ in range(3)]
     fake.says(answers({"page 2": reply(bo), "page 9": refusal(11), "check-out": reply("loan 2 due 2026-03-09"),
@@ -384,7 +390,8 @@ def nobody_stays(driver, fake):
 
 
 def panel_of_now(driver, fake):
-    """The panel of the patron is of now after each command that changes it, scanned or typed, by fast hands before slow answers."""
+    """The panel of the patron is of now after each command that changes it, scanned or typed, by fast hands before
+    slow answers."""
     desk = Desk(driver, fake.url, 1)
     lines = {"loan": "loan 1 due 2026-03-09 renewals 1 title 200 Salt Roads", "hold": "hold 7 at 1 waiting title 300 Maps"}
 
@@ -438,7 +445,8 @@ def library_day(driver, fake):
 
 
 def names(driver, fake):
-    """Names and titles stand by themselves, also from right to left; long ones break, and numbers and days in columns don't."""
+    """Names and titles stand by themselves, also from right to left; long ones break, and numbers and days in columns
+    don't."""
     sara, long, most = "שרה לוי 42", "W" * 120, 4294967295
     page = f"patron 1 owed 40 name {sara}\nloan 5 due 2026-03-09 renewals 1 title 100 {long}\nhold {most} at 1 waiting from 2026-04-01 title 300 {sara}"
     fake.says(answers({"page 1": reply(page), "check-out 1 10": reply("loan 5 due 2026-03-09"), "check-in 20": reply("fine 0 ready 7 at 1 until 2026-03-07"),
@@ -473,7 +481,8 @@ def names(driver, fake):
 
 
 def next_patron(driver, fake):
-    """Next patron counts always: right after another one, while scans wait, where the page moves under the mouse, with something left in the line, and from another field."""
+    """Next patron counts always: right after another one, while scans wait, where the page moves under the mouse, with
+    something left in the line, and from another field."""
     late = threading.Event()
     slow = {"check-out 1 31": reply("loan 1 due 2026-03-09"), "check-out 4 32": reply("loan 2 due 2026-03-09"), "check-out 1 33": refusal(36, late), "check-out 4 34": reply("loan 3 due 2026-03-09")}
     fake.says(answers(slow, 0.3))
@@ -521,7 +530,8 @@ def next_patron(driver, fake):
 
 
 def closed_pages(driver, fake):
-    """Who closes the page while scans wait is asked first, and what waited is there again at the next sign-in on this machine, with a question."""
+    """Who closes the page while scans wait is asked first, and what waited is there again at the next sign-in on this
+    machine, with a question."""
     first, desk = driver.current_window_handle, Desk(driver, fake.url, None)
     driver.switch_to.new_window("tab")
     late = threading.Event()
@@ -563,7 +573,8 @@ def closed_pages(driver, fake):
 
 
 def keys_anywhere(driver, fake):
-    """Keys go to the line for scans from anywhere but a field that the clerk is in; after a refusal the focus is on it, and it is never under what is told."""
+    """Keys go to the line for scans from anywhere but a field that the clerk is in; after a refusal the focus is on
+    it, and it is never under what is told."""
     desk, late = Desk(driver, fake.url, 1), [threading.Event() for _ in range(3)]
     many = "\n".join(f"hold {it} copy {it + 100} title {it} Title {it}" for it in range(1, 61))
     wide = "W" * 120
@@ -623,7 +634,8 @@ def keys_anywhere(driver, fake):
 
 
 def misread(driver, fake):
-    """A line that isn't understood is told with its word, isn't sent and stays in its field; a scan that comes after it goes to its line once the clerk leaves the field."""
+    """A line that isn't understood is told with its word, isn't sent and stays in its field; a scan that comes after
+    it goes to its line once the clerk leaves the field."""
     desk = Desk(driver, fake.url, 1)
     fake.says(answers({"check-out": reply("loan 1 due 2026-03-09")}))
     for line, told in (("chek-out 1 10 1", "Unknown command chek-out; the field offers them all."), ("check-out 1 x 1", "copy must be a number up to 4294967295, without a leading zero: x"),
@@ -653,7 +665,8 @@ def paper(driver, button):
 
 
 def lists(driver, fake):
-    """Lists of the branch are shown, go on where there is more, and are printed; a copy, a title and an account are looked up, and settings are shown."""
+    """Lists of the branch are shown, go on where there is more, and are printed; a copy, a title and an account are
+    looked up, and settings are shown."""
     desk = Desk(driver, fake.url, 1)
     many = "\n".join(f"hold {it} copy {it + 100} title {it} Title {it}" for it in range(1, 101))
     late = threading.Event()
@@ -738,7 +751,8 @@ def past_their_day(driver, fake):
 
 
 def slips(driver, fake):
-    """What came in for a hold or another branch has a slip, one to a page, and each scan tells its title and for whom."""
+    """What came in for a hold or another branch has a slip, one to a page, and each scan tells its title and for
+    whom."""
     desk = Desk(driver, fake.url, 1)
     fake.says(answers({"check-in 20": reply("fine 0 ready 1 at 1 until 2026-03-07"), "copy 20": reply("copy 20 home 2 kind 1 price 1200 title 200 Salt Roads\nready 1 at 1 until 2026-03-07 patron 2 Bo Carr"),
                        "check-in 11": reply("fine 0 transit 2 for 2"), "copy 11": reply("copy 11 home 1 kind 1 price 2500 title 100 Rivers of the North\ntransit 2 for 2 patron 3 Cy Dunn"),
