@@ -145,7 +145,7 @@ it("sound").addEventListener("change", () => {
 function open() {
   showOpen(true);
   leaving = new AbortController();
-  const { key, branch } = desk();
+  const { key, branch, lendsAlone } = desk();
   const { signal } = leaving;
   const ask = (words, requestKey, unknown) => askBy(key, signal, words, requestKey, () => tellUnknown(unknown));
   day = new LibraryDay((words) => askBy(key, signal, words, newKey(), () => {}), showDay);
@@ -155,7 +155,7 @@ function open() {
   for (const what of papers.notes) note(...what);
   const behind = new LeftBehind(branch, key, sessionStorage, localStorage);
   behind.beOpen();
-  work = new Work({ branch, ask, screen, storage: sessionStorage, day, kept: (items) => behind.keep(items) });
+  work = new Work({ branch, ask, screen, storage: sessionStorage, day, lendsAlone, kept: (items) => behind.keep(items) });
   showMode(work.turn.mode);
   work.showTurn();
   focusScan();
@@ -175,7 +175,7 @@ async function tryToOpen(key, branch) {
   const found = await lookFirst((words) => askBy(key, mine.signal, words, newKey(), () => tellUnknown(TEXTS.unknownOpening)), branch);
   if (found === null || mine !== leaving) return;
   if (found.problem !== null) return tell(found.problem, true);
-  sessionStorage.setItem(DESK, JSON.stringify({ key, branch }));
+  sessionStorage.setItem(DESK, JSON.stringify({ key, branch, lendsAlone: found.rows === null }));
   branches.here = branch;
   it("desk-key").value = "";
   tell("");

@@ -11,14 +11,18 @@ import { TEXTS, amount, say } from "./texts.js";
 
 const VISIT = "circ.visit";
 const UNSHELVES = ["unshelve", "unshelve-cancelled"];
+const NOT_ALLOWED = 81;
 const SILENT = { told() {}, toldMore() {}, noted() {}, visit() {}, slip() {}, ended() {} };
+
+// Whether an answer is missing that should have come: not where the desk was closed, nor what a clerk may not ask.
+const isMissing = (answer) => answer !== null && answer.refusal !== NOT_ALLOWED;
 
 export class Service {
   // `ask` sends words under a key, says a text as often as no answer comes, and gives the answer, or null once the desk is closed; `screen` shows what is told and
   // noted, the visit of a patron, and slips; `day` is the library's. It is told too how words ended: by a refusal's number, by 0 for what else
-  // isn't right, and by null where they are done.
-  constructor({ branch, ask, screen, storage, day }) {
-    Object.assign(this, { branch, ask, screen, storage, day });
+  // isn't right, and by null where they are done. A clerk who `lendsAlone` may not ask for the loans of a copy.
+  constructor({ branch, ask, screen, storage, day, lendsAlone = false }) {
+    Object.assign(this, { branch, ask, screen, storage, day, lendsAlone });
     // what is being served, as it is called where it doesn't succeed
     this.label = "";
     // the patron whose page came, with the page, the receipt, and until when copies stand ready
@@ -92,9 +96,23 @@ export class Service {
     return row?.hold === Number(hold) ? { shelved: row.copy } : {};
   }
 
+  // The loan that a copy is on before it comes in: nobody else tells a clerk who lends alone whose it was.
+  async lookForLoan(number) {
+    const answer = await this.asked(["copy", number], newKey());
+    const copy = answer?.reply && readCopy(answer.text);
+    return copy?.place.to === "loan" ? { lent: copy.place } : {};
+  }
+
+  // What can be asked only before words are sent; null where nothing is, and they are sent at once.
+  lookBefore([command, number]) {
+    if (UNSHELVES.includes(command)) return this.lookForShelved(number);
+    return command === "check-in" && this.lendsAlone ? this.lookForLoan(number) : null;
+  }
+
   // Sends words; `found` is what was asked of them before.
   async act(words, key, found = {}) {
-    const known = UNSHELVES.includes(words[0]) ? { ...found, ...await this.lookForShelved(words[1]) } : found;
+    const before = this.lookBefore(words);
+    const known = before === null ? found : { ...found, ...await before };
     const answer = await this.asked(words, key);
     return answer?.reply ? this.done(words, answer, known) : this.failed(words, answer);
   }
@@ -109,7 +127,7 @@ export class Service {
     const { reply } = answer;
     this.screen.told(said(reply));
     if (words[0] === "begin-day") this.day.begun(words[1]);
-    const more = { ...known, ...await this.look(words, reply, known.shelved) };
+    const more = { ...known, ...await this.look(words, reply, known) };
     this.addToReceipt(words, reply, more.page);
     const told = saidFully(words, reply, more);
     this.tellDone(words, answer, told);
@@ -131,26 +149,34 @@ export class Service {
   }
 
   // The copy that was moved, and the page of the patron at the desk: any words that do more than ask may have changed it.
-  async look(words, reply, shelved) {
+  async look(words, reply, { shelved, lent }) {
     const moved = ["check-in", "missing", "withdraw", "amend-copy", "rehome"].includes(words[0]) ? words[1] : shelved;
     const copy = moved === undefined ? {} : await this.lookAtCopy(moved, said(reply));
-    const debtor = reply.fine > 0 || reply.price > 0 ? await this.lookForDebtor(words[1], said(reply)) : {};
+    const ended = lent && copy.copy && copy.copy.place.loan !== lent.loan ? lent : null;
+    const debtor = reply.fine > 0 || reply.price > 0 ? await this.lookForDebtor(words[1], said(reply), ended) : {};
     const page = await this.lookAtPage(words, reply);
     return { ...copy, ...debtor, ...page, isMissing: Boolean(copy.isMissing || debtor.isMissing || page.isMissing) };
   }
 
-  // Who owes what a copy that came in or is missing cost, and how much in all: the patron of its last loan.
-  async lookForDebtor(number, told) {
-    let last = null;
+  // The last loan of a copy, as far as it is told.
+  async lookForLast(number, told) {
+    let last = {};
     for (let after = 0; after !== null;) {
       const answer = await this.question(["loans", number, after], told);
       const list = answer?.reply && readList("loans", answer.text);
-      if (!list) return { isMissing: answer !== null };
+      if (!list) return { isMissing: isMissing(answer) };
       last = list.rows.at(-1) ?? last;
       ({ after } = list);
     }
-    const answer = last && await this.question(["borrower", last.patron], told);
-    return answer?.reply?.kind === "borrower" ? { debtor: answer.reply } : { isMissing: answer !== null };
+    return last;
+  }
+
+  // Who owes what a copy that came in or is missing cost, and how much in all: the patron of the loan that ended, where it is known, or else of its last loan.
+  async lookForDebtor(number, told, ended) {
+    const last = ended ?? await this.lookForLast(number, told);
+    if (last.patron === undefined) return last;
+    const answer = await this.question(["borrower", last.patron], told);
+    return answer?.reply?.kind === "borrower" ? { debtor: answer.reply } : { isMissing: isMissing(answer) };
   }
 
   async lookAtPage(words, reply) {

@@ -19,10 +19,10 @@ const patronOfItem = (item) => (item?.kind === "patron" ? item.number : item?.pa
 
 export class Work {
   // `screen` shows what waits and what is wanted next, and what the service has to show; `kept` has all that waits, each time.
-  constructor({ branch, ask, screen, storage, day, kept }) {
+  constructor({ branch, ask, screen, storage, day, lendsAlone, kept }) {
     Object.assign(this, { branch, screen });
     this.turn = new Turn(storage);
-    this.service = new Service({ branch, ask, screen: this.screenOfTurn(), storage, day });
+    this.service = new Service({ branch, ask, screen: this.screenOfTurn(), storage, day, lendsAlone });
     this.queue = new Queue((item) => this.handle(item), () => this.changed(), { storage, form: keptForm, kept });
   }
 

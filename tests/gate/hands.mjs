@@ -41,7 +41,7 @@ function turns(acts, asked = {}) {
 }
 
 // A desk of branch 1 in a tab, and what its screen was told.
-function desk(storage = new Kept(), day = { now: dayOf, look: async () => {}, begun() {} }, kept = () => {}) {
+function desk(storage = new Kept(), day = { now: dayOf, look: async () => {}, begun() {} }, kept = () => {}, lendsAlone = false) {
   const leaving = new AbortController();
   const told = [], noted = [], receipts = [], slips = [], special = [], ended = [];
   let unknown = 0, waiting = [], wanted = null, shown = null;
@@ -62,7 +62,7 @@ function desk(storage = new Kept(), day = { now: dayOf, look: async () => {}, be
     nobody: () => { noted.length = 0; },
     ended: (words, refusal) => ended.push([words.join(" "), refusal]),
   };
-  const work = new Work({ branch: "1", ask, screen, storage, day, kept });
+  const work = new Work({ branch: "1", ask, screen, storage, day, lendsAlone, kept });
   return { work, told, noted, receipts, slips, special, ended, storage, leaving, unknown: () => unknown, waiting: () => waiting, wanted: () => wanted, shown: () => shown };
 }
 
@@ -380,11 +380,28 @@ is([new Papers(kept, 2).slips.length, new Papers(kept, 2).notes.length], [0, 2])
 papers.clearNotes();
 is([new Papers(kept, 2).slips.length, new Papers(kept, 2).notes.length], [0, 0]);
 // who owes a fine that can't be asked for is told as missing, and nothing waits for it
-sent = network(turns([reply("fine 20 shelf 1")], { "copy 20": roads("shelf 1"), "loans 20": refusal(81) }));
+sent = network(turns([reply("fine 20 shelf 1")], { "copy 20": roads("shelf 1"), "loans 20": refusal(13) }));
 it = desk();
 it.work.scan("check-in", "20");
 await until(() => isQuiet(it));
 is(it.told.at(-1), ["copy 20: Salt Roads: To the shelf, branch 1. Fine: 0.20. The desk's other answers did not come.", true]);
+// a clerk who lends alone may not ask for loans, so a copy is asked for before it comes in; where that tells nobody the fine alone is told, and what waits goes on
+const lentTo = "loan 101 due 2026-03-17 patron 2 Bo Carr", fineAlone = "Salt Roads: To the shelf, branch 1. Fine: 0.20.";
+for (const [lendsAlone, places, asked, text] of [
+  [true, [lentTo, "shelf 1"], ["copy 20", "check-in 20 1", "copy 20", "borrower 2"], `${fineAlone} Bo Carr owes 1.30 now.`],
+  [true, ["shelf 1", "shelf 1"], ["copy 20", "check-in 20 1", "copy 20", "loans 20 0"], fineAlone],
+  // a loan that is still there isn't the one that ended
+  [true, [lentTo, lentTo], ["copy 20", "check-in 20 1", "copy 20", "loans 20 0"], fineAlone],
+  [false, ["shelf 1"], ["check-in 20 1", "copy 20", "loans 20 0"], fineAlone],
+]) {
+  const left = [...places];
+  const answer = turns([reply("fine 20 shelf 1"), reply("fine 0 shelf 1")], { "loans": refusal(81), "borrower 2": debtor["borrower 2"], "copy 21": roads("shelf 1").replace("20", "21"), "copy 20": "" });
+  sent = network((body) => (JSON.parse(body).join(" ") === "copy 20" ? reply(roads(left.shift())) : answer(body)));
+  it = desk(undefined, undefined, undefined, lendsAlone);
+  for (const scan of ["20", "21"]) it.work.scan("check-in", scan);
+  await until(() => isQuiet(it));
+  is([bodies(sent).slice(0, asked.length), it.work.queue.isStopped, it.noted.length, it.noted[0]], [asked, false, 2, `check-in 20 1: ${text}`]);
+}
 const bo = page(2, "Bo Carr", "loan 2 due 2026-03-09 renewals 0 title 200 Salt Roads", "hold 5 at 2 waiting title 300 Maps, Old and New");
 sent = network(turns([reply("loan 2 due 2026-03-09"), reply("hold 5"), reply("owed 40"), reply("fine 0 price 1200")], { "page 2": bo, "copy 20": roads("missing"), ...debtor, "borrower 2": "patron 2 owed 1240 name Bo Carr\nkind 1" }));
 it = desk();

@@ -428,3 +428,26 @@ def calendar_of_year(driver, fake):
     driver.execute_cdp_cmd("Emulation.clearDeviceMetricsOverride", {})
     need("no name is empty, and it fits a telephone", ([it for it in desk.names() if not it[1]], desk.fits(360)), ([], True))
     fake.day = time.strftime("%Y-%m-%d")
+
+
+def lends_alone(driver, fake):
+    """A return with a fine doesn't stop the scans of a clerk who lends alone, and tells who owes it, also after a
+    reload."""
+    roads = "copy 20 home 1 kind 1 price 1200 title 200 Salt Roads"
+    lent, back = reply(f"{roads}\nloan 5 due 2026-03-09 patron 2 Bo Carr"), reply(f"{roads}\nshelf 1")
+    told = "Salt Roads: To the shelf, branch 1. Fine: 0.20. Bo Carr owes 1.30 now."
+    fake.says(answers({"branches 0": refusal(81), "loans": refusal(81), "account": refusal(81),
+                       "borrower 2": reply("patron 2 owed 130 name Bo Carr\nkind 1"),
+                       "copy 20": [lent, back, lent, back], "check-in 20": reply("fine 20 shelf 1"),
+                       "check-in 21": reply("fine 20 shelf 1"), "check-in": reply("fine 0 shelf 1")}))
+    desk = Desk(driver, fake.url, 1)
+    desk.mode("check-in")
+    for again in (False, True):
+        if again:
+            driver.refresh()
+            until("the desk is open again", lambda: desk.it("desk").is_displayed())
+        desk.keys("20", Keys.ENTER, "21", Keys.ENTER, "22", Keys.ENTER)
+        until("all are in", lambda: desk.told() == "Tides: To the shelf, branch 1. No fine.")
+        fined = "check-in 21 1: Tides: To the shelf, branch 1. Fine: 0.20."
+        need("who owes, and a fine of nobody known", desk.items("last")[1:3], [fined, f"check-in 20 1: {told}"])
+        need("nothing stands still", desk.it("queue").is_displayed(), False)

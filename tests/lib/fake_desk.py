@@ -23,6 +23,7 @@ def fault(number, seconds=0.0):
 
 
 UNKNOWN = (0.0, 404, json.dumps({"status": 404}))
+BRANCHES = "branch 1 pickup 5 week ooooooc name branch 1\nbranch 2 pickup 5 week ooooooc name branch 2\nend"
 NOTHING = None  # the connection is closed with no answer
 PAGE = {"1": "patron 1 owed 0 name Ann Bell", "4": "patron 4 owed 0 name Di Eck"}
 
@@ -39,7 +40,7 @@ def answers(table, seconds=0.0):
         if what == "today":
             return UNKNOWN
         if what == "branches 0":
-            return refusal(81)  # as a clerk who lends alone is answered
+            return reply(BRANCHES)
         if what.startswith("shelf "):
             return reply("      hold    copy  patron until      title\nend", seconds)
         if what.startswith("copy "):

@@ -15,7 +15,7 @@ from selenium.webdriver.common.by import By
 from selenium.webdriver.common.keys import Keys
 
 from room import TOP
-from lib.browser_views import acting, calendar_of_year, for_everybody, german, patrons_page, searching, tabs
+from lib import browser_views as views
 from lib.browsing import Desk, Failed, Page, browser, complaints, counts, enter, need, rows, until
 from lib.fake_desk import NOTHING, PAGE, FakeDesk, answers, refusal, reply
 
@@ -212,7 +212,8 @@ def opening(driver, fake):
     for branch, key in ((1, "Schlüssel"), ("x", "deskkey00001")):
         page.sign_in(branch, key)
         until("what isn't in its form isn't sent", lambda: page.told().startswith("This should be") and fake.sent == [])
-    fake.says(answers({"today": [NOTHING, NOTHING, reply(f"today {fake.day}")]}))
+    today = [NOTHING, NOTHING, reply(f"today {fake.day}")]
+    fake.says(answers({"today": today, "branches 0": refusal(81)}))
     page.sign_in(2, "deskkey00001")
     until("no answer is told", lambda: page.told() == "No connection. We keep trying.")
     until("it opens once there is one", lambda: page.it("desk").is_displayed())
@@ -569,7 +570,8 @@ def closed_pages(driver, fake):
     until("all came in", lambda: [it for it in fake.words() if it.startswith("check-in")] == ["check-in 11 1", "check-in 12 1", "check-in 13 1"])
     need("under its key", key in fake.keys(), True)
     until("nothing waits", lambda: not desk.it("queue").is_displayed())
-    need("and nothing of it is kept", driver.execute_script("return Object.keys(localStorage)"), ["circ.branch"])
+    kept = sorted(driver.execute_script("return Object.keys(localStorage)"))
+    need("and nothing of it is kept", kept, ["circ.branch", "circ.branches"])
 
 
 def keys_anywhere(driver, fake):
@@ -812,7 +814,11 @@ def another_day(driver, fake):
     need("320 pixels", desk.fits(320), True)
 
 
-PARTS = (tabs, searching, acting, german, for_everybody, patrons_page, calendar_of_year, lists, past_their_day, slips, fast_scans, refused_scans, unread_answers, receipts, signed_out, telephone, opening, scanners, hands_at_the_desk, another_day, loaded_anew, nobody_stays, panel_of_now, library_day, names, next_patron, closed_pages, keys_anywhere, misread)
+PARTS = (views.tabs, views.searching, views.acting, views.lends_alone, views.german, views.for_everybody,
+         views.patrons_page, views.calendar_of_year, lists, past_their_day, slips, fast_scans, refused_scans,
+         unread_answers, receipts, signed_out, telephone, opening, scanners, hands_at_the_desk, another_day,
+         loaded_anew, nobody_stays, panel_of_now, library_day, names, next_patron, closed_pages,
+         keys_anywhere, misread)
 
 
 def main():
