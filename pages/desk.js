@@ -4,6 +4,7 @@ import { act } from "./acting.js";
 import { askUntilAnswered, newKey } from "./asking.js";
 import { Branches } from "./branches.js";
 import { isKey } from "./commands.js";
+import { Cover } from "./cover.js";
 import { clearLists, clearLookUps, listEnded, listenForLists, showList, showTillDay } from "./desk_lists.js";
 import { EntryForms } from "./entry_forms.js";
 import { plain } from "./isolating.js";
@@ -122,6 +123,7 @@ function showBranches(rows) {
 }
 
 const year = new YearView(openDesk);
+const cover = new Cover(() => desk().key, focusScan);
 
 // The branches that this machine knows, for whoever signs in.
 function offerBranches() {
@@ -163,6 +165,7 @@ function open() {
   work.queue.run();
   if (work.service.visit?.receipt.day === null) work.service.lookForDay();
   else day.look();
+  cover.idle.begin();
   return behind;
 }
 
@@ -213,6 +216,7 @@ it("sign-out").addEventListener("click", () => {
   const { unknown, unsent } = work.end();
   leaving.abort();
   search.end();
+  cover.idle.end();
   sessionStorage.clear();
   showVisit(null);
   putSlipsAway();

@@ -5,12 +5,13 @@ import { once } from "./clicks.js";
 import { holdBody, isKey, isNumber } from "./commands.js";
 import { daysBetween, today } from "./days.js";
 import { calendarOf } from "./due_days.js";
+import { Idle } from "./idle.js";
 import { marked, plain, write } from "./isolating.js";
 import { saveFile } from "./saving.js";
 import { renewalsLeft, saidNo, stateOf } from "./saying.js";
 import { cut, nameOf } from "./scans.js";
 import { SignedIn } from "./signed_in.js";
-import { BRANCHES, TEXTS, amount, fillIn, say } from "./texts.js";
+import { BRANCHES, IDLE_MINUTES, TEXTS, amount, fillIn, say } from "./texts.js";
 import { silence, speak } from "./voice.js";
 
 const it = (id) => document.getElementById(id);
@@ -166,6 +167,7 @@ it("sign-in").addEventListener("submit", async (event) => {
   patron?.signOut();
   const mine = new SignedIn({ number, key }, () => mine === patron && tellUnknown());
   patron = mine;
+  idle.renew();
   tell(TEXTS.sending);
   const isShown = await look(mine);
   if (mine !== patron) return;
@@ -174,6 +176,7 @@ it("sign-in").addEventListener("submit", async (event) => {
     it("name").focus();
     fillHold();
   } else {
+    idle.end();
     patron.signOut();
     patron = null;
   }
@@ -196,7 +199,9 @@ it("renew-all").addEventListener("click", once(renewAll));
 it("save-days").addEventListener("click", () => saveFile(`${today()}.ics`, "text/calendar", calendarOf(loans)));
 window.addEventListener("hashchange", fillHold);
 
-it("sign-out").addEventListener("click", () => {
+// Leaves nothing of the patron, and tells.
+function signOut(told) {
+  idle.end();
   const wasBusy = patron.signOut();
   patron = null;
   loans = [];
@@ -205,9 +210,12 @@ it("sign-out").addEventListener("click", () => {
   for (const id of ["name", "owed", "loans", "holds"]) it(id).replaceChildren();
   for (const form of document.forms) form.reset();
   silence();
-  tell(wasBusy ? TEXTS.signedOutUnknown : TEXTS.signedOut, wasBusy);
+  tell(wasBusy ? TEXTS.signedOutUnknown : told, wasBusy);
   it("number").focus();
-});
+}
+
+it("sign-out").addEventListener("click", () => signOut(TEXTS.signedOut));
+const idle = new Idle(() => signOut(say(TEXTS.signedOutIdle, { minutes: IDLE_MINUTES })));
 
 fillIn();
 
@@ -219,4 +227,5 @@ if (patron) {
   const before = patron.actBefore();
   if (before) finish(patron, before);
   else look(patron).then(fillHold);
+  idle.begin();
 }

@@ -56,6 +56,9 @@ export const BRANCHES = {};
 // What stands before the number on cards and on copies; it is cut off. Letters, so that no number begins with it; empty where there is none.
 export const PREFIXES = { patron: "P", copy: "C" };
 
+// After so many minutes without a key or a touch a patron is signed out and a desk is covered; 0 for never.
+export const IDLE_MINUTES = 10;
+
 // The language of these texts, as HTML names it, and the others.
 export const LANGUAGE = "en";
 const OTHERS = { de: german };
@@ -126,6 +129,9 @@ export const TEXTS = {
   sound: "Sound on refusals",
   signedOut: "Signed out. This tab no longer has your key.",
   signedOutUnknown: "Signed out. Your last request had no answer yet, so it is not known whether it was carried out. Sign in again to see.",
+  signedOutIdle: "Signed out, for nothing was done here for {minutes} minutes.",
+  covered: "Nothing was done here for {minutes} minutes. What waits is still sent. The desk key opens the page again.",
+  coveredWrong: "The desk was not opened with this key.",
   closed: "Signed out. This tab no longer has the key.",
   closedUnknown: "Signed out. It is not known whether this was carried out: {what}.",
   closedWaiting: "This was not sent: {what}.",

@@ -4,6 +4,7 @@ import { Branches } from "../../pages/branches.js";
 import { once } from "../../pages/clicks.js";
 import { COMMANDS, QUESTIONS } from "../../pages/commands.js";
 import { formOf, labelOf as labelOfPart, partOfRefusal, problemOfField, wordsOfForm } from "../../pages/fields.js";
+import { Idle } from "../../pages/idle.js";
 import { problemOfWords } from "../../pages/misread.js";
 import { lookFirst } from "../../pages/opening.js";
 import { readReply } from "../../pages/replies.js";
@@ -11,7 +12,7 @@ import { actionsOfHold, actionsOfLoan, actionsOfPatron, actionsOfRow } from "../
 import { cut } from "../../pages/scans.js";
 import { Search, searchedBy } from "../../pages/search.js";
 import { placeAfter } from "../../pages/tabs.js";
-import { BRANCHES, branchName } from "../../pages/texts.js";
+import { BRANCHES, IDLE_MINUTES, branchName } from "../../pages/texts.js";
 import { monthsFrom, weeksOf } from "../../pages/year.js";
 import { Kept } from "../lib/network.mjs";
 
@@ -144,4 +145,34 @@ is(months.flatMap(weeksOf).every((week) => week.length === 7 && week.every((it, 
 
 // ---- the arrow keys go round among the tabs, and other keys to none
 is([["ArrowRight", 0], ["ArrowRight", 4], ["ArrowLeft", 4], ["ArrowLeft", 0], ["Home", 3], ["End", 0], ["Enter", 1], ["4", 1], ["toString", 1]].map(([key, place]) => placeAfter(key, place, 5)), [1, 0, 3, 4, 0, 4, null, null, null]);
+
+// ---- a page is left once nobody did anything for its minutes, by the clock, and also in a tab that was loaded anew meanwhile; with 0 minutes never
+const room = new EventTarget(), tabOfRoom = new Kept(), TEN = 600_000;
+let clock = 0, timesLeft = 0;
+const idleOf = (minutes, storage = tabOfRoom) => new Idle(() => { timesLeft += 1; }, { minutes, storage, page: room, now: () => clock, every: 2 });
+const passed = async (milliseconds) => { clock += milliseconds; await pause(30); return timesLeft; };
+const doing = (sign) => room.dispatchEvent(new Event(sign));
+const idle = idleOf(10), neverIdle = idleOf(0, new Kept());
+for (const it of [idle, neverIdle]) it.begin();
+is([IDLE_MINUTES, await passed(TEN - 1), await passed(1), await passed(TEN)], [10, 0, 1, 1]);
+for (const sign of ["keydown", "pointerdown", "pointermove", "wheel"]) {
+  timesLeft = 0;
+  idle.renew();
+  const before = await passed(TEN - 1);
+  doing(sign);
+  is([before, await passed(TEN - 1), await passed(1)], [0, 0, 1]);
+}
+// whoever comes after it comes too late, and what is done then doesn't count in a tab that is loaded anew
+doing("keydown");
+const idleAnew = idleOf(10);
+idleAnew.begin();
+is([timesLeft, await passed(0)], [2, 2]);
+idleAnew.renew();
+clock += TEN;
+doing("keydown");
+is([timesLeft, tabOfRoom.getItem("circ.seen")], [3, String(clock - TEN)]);
+idleAnew.renew();
+idleAnew.end();
+is(await passed(TEN), 3);
+neverIdle.end();
 console.log(`views: ${tried} tried`);

@@ -4,6 +4,7 @@ languages, what everybody needs, and the patron's page. They are run by `tests/t
 import threading
 import time
 
+from selenium.webdriver.common.action_chains import ActionChains
 from selenium.webdriver.common.by import By
 from selenium.webdriver.common.keys import Keys
 
@@ -428,6 +429,69 @@ def calendar_of_year(driver, fake):
     driver.execute_cdp_cmd("Emulation.clearDeviceMetricsOverride", {})
     need("no name is empty, and it fits a telephone", ([it for it in desk.names() if not it[1]], desk.fits(360)), ([], True))
     fake.day = time.strftime("%Y-%m-%d")
+
+
+def left_alone(driver, fake):
+    """After ten minutes a patron is signed out, and a desk covered until its key is typed; what waits is sent below
+    the cover, and nothing is shown, pressed or taken there, also after a reload."""
+    ahead = "const now = Date.now; Date.now = () => now() + 600000"
+    fake.says(answers({"GET /patrons/1": reply(PAGE["1"])}))
+    page = Page(driver, f"{fake.url}/pages/patron.html", "My library card")
+    enter(page, "1")
+    until("the page", lambda: page.it("page").is_displayed())
+    page.type("title", "999")
+    need("nothing yet", driver.execute_script(f"{ahead} - 5000"), None)
+    time.sleep(1.5)
+    need("nearly ten minutes", page.it("page").is_displayed(), True)
+    driver.execute_script(f"{{ {ahead}; }}")
+    until("it is signed out", lambda: page.told() == "Signed out, for nothing was done here for 10 minutes.")
+    need("nothing stays", (page.it("page").is_displayed(), page.stored(), page.it("name").text), (False, {}, ""))
+    need("not in the fields, either", page.it("title").get_attribute("value"), "")
+    # the desk
+    late = threading.Event()
+    fake.says(answers({"check-in 11": reply("fine 0 shelf 1", late), "check-in": reply("fine 0 shelf 1"),
+                       "check-in 13": refusal(13)}))
+    desk = Desk(driver, fake.url, 1)
+    desk.tab("patrons")
+    driver.execute_script("document.querySelector('#form-patron').open = true")
+    desk.type("patron-name", "Ida Jo")
+    desk.mode("check-in")
+    desk.keys("11", Keys.ENTER, "12", Keys.ENTER, "2")
+
+    line = "Nothing was done here for 10 minutes. What waits is still sent. The desk key opens the page again."
+    driver.execute_script(ahead)
+    until("it is covered", lambda: desk.it("cover-told").text == line)
+    need("nothing else is shown", (desk.it("main").is_displayed(), sorted(desk.names()), desk.focus()),
+         (False, [("button", "Go on"), ("textbox", "Desk key")], "cover-key"))
+    need("it fits a telephone", desk.fits(320), True)
+    late.set()
+    came = lambda: [it for it in fake.words() if it.startswith("check-in")]
+    until("what waits is sent", lambda: came() == ["check-in 11 1", "check-in 12 1"])
+    for key in ("C14", "deskkey00002", ""):
+        desk.keys(key, Keys.ENTER)
+        left = desk.it("cover-key").get_attribute("value")
+        need("it stays covered", (desk.it("main").is_displayed(), left), (False, ""))
+    need("it is told", desk.it("cover-told").text, "The desk was not opened with this key.")
+    driver.execute_script("""document.activeElement.blur();
+        const clipboardData = new DataTransfer(), how = {clipboardData, cancelable: true, bubbles: true};
+        clipboardData.setData('text', '40\\r\\n41');
+        document.body.dispatchEvent(new ClipboardEvent('paste', how));""")
+    for key in ("1", "n", "t"):
+        ActionChains(driver).key_down(Keys.ALT).send_keys(key).key_up(Keys.ALT).perform()
+    ActionChains(driver).send_keys("13", Keys.ENTER).perform()
+    again = driver.execute_cdp_cmd("Page.addScriptToEvaluateOnNewDocument", {"source": ahead})["identifier"]
+    driver.refresh()
+    until("it is covered again", lambda: desk.it("cover").is_displayed() and desk.it("cover-told").text == line)
+    driver.execute_cdp_cmd("Page.removeScriptToEvaluateOnNewDocument", {"identifier": again})
+    desk.keys("deskkey00001", Keys.ENTER)
+    until("it is open again", lambda: desk.it("desk").is_displayed() and not desk.it("cover").is_displayed())
+    mode = driver.execute_script("return document.querySelector('input[name=mode]:checked').value")
+    need("the mode, the focus, and nothing was taken meanwhile", (mode, desk.focus(), came()),
+         ("check-in", "scan", ["check-in 11 1", "check-in 12 1"]))
+    desk.keys("15", Keys.ENTER)
+    until("a scan", lambda: "check-in 15 1" in fake.words())
+    time.sleep(1.5)
+    need("it stays open", desk.it("desk").is_displayed(), True)
 
 
 def lends_alone(driver, fake):
