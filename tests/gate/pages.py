@@ -16,6 +16,8 @@ from reference.outer_forms import WORDS
 
 MODULES = {"pages": 288, "hands": 352, "views": 48}  # how many comparisons the modules of these names make
 
+SVG = 'xmlns="http://www.w3.org/2000/svg"'  # it says what the file is, and nothing is loaded from there
+
 
 def read(path):
     with open(os.path.join(TOP, path), encoding="utf-8") as file:
@@ -108,10 +110,13 @@ def main():
     check("there are pages and scripts", (len(pages) > 1, len(scripts) > 3), (True, True))
     for name in names:
         # with the header that the servers before it send, a browser runs and loads nothing else
-        check(f"{name} names another origin", re.findall(r"(?:https?:)?//[a-z][^\s]*\.[a-z]+", read(f"pages/{name}")), [])
+        text = read(f"pages/{name}").replace(SVG, "")
+        check(f"{name} names another origin", re.findall(r"(?:https?:)?//[a-z][^\s]*\.[a-z]+", text), [])
     for name in pages:
         text = read(f"pages/{name}")
         check(f"{name} has a script or a style of its own within", re.findall(r"<style|<script(?! type=\"module\" src=)|\son\w+=|\sstyle=", text), [])
+        # the header allows no data: address, and without an icon a browser asks for /favicon.ico
+        check(f"the icon of {name}", re.findall(r'rel="icon" href="([^"]*)"', text), ["icon.svg"])
         for file in re.findall(r'(?:src|href)="([^"]*)"', text):
             check(f"{name} names {file}", os.path.exists(os.path.join(TOP, "pages", file)), True)
         asked_for = re.findall(r'rel="modulepreload" href="([^"]*)"', text)

@@ -242,6 +242,21 @@ def acting(driver, fake):
     until("another branch, by its name", lambda: desk.it("place").text.split(", ")[1:2] == ["Harbour"])
 
 
+def icon(driver, fake):
+    """Both pages have an icon that the browser may show, and no browser asks for another."""
+    for name, title in (("patron", "My library card"), ("desk", "Circulation desk")):
+        page = Page(driver, f"{fake.url}/pages/{name}.html", title)
+        fake.files.clear()
+        driver.refresh()
+        until("the texts", lambda: page.it("sign-in").is_displayed())
+        size = driver.execute_async_script("""const icon = new Image();
+            for (const sign of ['load', 'error']) icon.addEventListener(sign, () => arguments[0](icon.naturalWidth));
+            icon.src = document.querySelector('link[rel=icon]').href;""")
+        need(f"the icon of {name} is shown", size > 0, True)
+        time.sleep(0.5)
+        need(f"another file of {name}", [it for it in fake.files if not it.startswith("/pages/")], [])
+
+
 def german(driver, fake):
     """A browser that asks for German has the pages in German, and their language is told."""
     agent = driver.execute_script("return navigator.userAgent")

@@ -7,7 +7,8 @@ import threading
 import time
 from http.server import BaseHTTPRequestHandler, ThreadingHTTPServer
 
-TYPES = {".html": "text/html; charset=utf-8", ".js": "text/javascript", ".css": "text/css"}
+TYPES = {".html": "text/html; charset=utf-8", ".js": "text/javascript", ".css": "text/css",
+         ".svg": "image/svg+xml"}
 
 
 def reply(text, seconds=0.0):
@@ -58,6 +59,7 @@ class FakeDesk:
     doesn't."""
 
     def __init__(self, pages):
+        self.files = []  # the paths of files that were asked for
         self.day, self.pages, self.sent, self.answer = time.strftime("%Y-%m-%d"), pages, [], lambda what: UNKNOWN
         handler = type("Handler", (Handler,), {"fake": self})
         self.server = ThreadingHTTPServer(("127.0.0.1", 0), handler)
@@ -82,6 +84,7 @@ class Handler(BaseHTTPRequestHandler):
     def do_GET(self):
         if self.path.startswith("/patrons/"):
             return self.asked(f"GET {self.path}")
+        self.fake.files.append(self.path)
         if not self.path.startswith("/pages/"):
             return self.tell(404, b"", "text/html")
         name = os.path.basename(self.path)

@@ -814,8 +814,9 @@ def another_day(driver, fake):
     need("320 pixels", desk.fits(320), True)
 
 
-PARTS = (views.tabs, views.searching, views.acting, views.lends_alone, views.left_alone, views.german, views.for_everybody,
-         views.patrons_page, views.calendar_of_year, lists, past_their_day, slips, fast_scans, refused_scans,
+PARTS = (views.tabs, views.searching, views.acting, views.lends_alone, views.left_alone, views.icon,
+         views.german, views.for_everybody, views.patrons_page, views.calendar_of_year, lists, past_their_day,
+         slips, fast_scans, refused_scans,
          unread_answers, receipts, signed_out, telephone, opening, scanners, hands_at_the_desk, another_day,
          loaded_anew, nobody_stays, panel_of_now, library_day, names, next_patron, closed_pages,
          keys_anywhere, misread)
