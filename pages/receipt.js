@@ -10,6 +10,11 @@ export function receiptHead({ name, day, branch }) {
   return say(TEXTS.receiptHead, { name, day: day ?? TEXTS.noDay, branch: branchName(branch) });
 }
 
+// What the patron owes, as it stands below the receipt.
+export function receiptEnd({ owed }) {
+  return owed === 0 ? TEXTS.owesNothing : say(TEXTS.owes, { owed: amount(owed) });
+}
+
 // The patron whom words are for, as they say; a renewal names none.
 export function patronOf(words) {
   return ["check-out", "pay", "waive", "place-hold", "place-hold-from", "card-key", "amend-patron"].includes(words[0]) ? Number(words[1]) : null;

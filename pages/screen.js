@@ -3,7 +3,7 @@
 import { buttonsOf, renew } from "./action_buttons.js";
 import { today } from "./days.js";
 import { write } from "./isolating.js";
-import { receiptHead } from "./receipt.js";
+import { receiptEnd, receiptHead } from "./receipt.js";
 import { actionsOfHold, actionsOfLoan, actionsOfPatron } from "./row_actions.js";
 import { confirmingOf, holdLine, labelOf, loanLine } from "./saying.js";
 import { slipLines } from "./slips.js";
@@ -126,6 +126,8 @@ export function showVisit(visit, act) {
   it("visit").hidden = visit === null;
   write(it("receipt-head"), visit ? receiptHead(visit.receipt) : "");
   it("receipt").replaceChildren(...(visit?.receipt.rows ?? []).map(line));
+  it("receipt-town").textContent = visit ? TOWN : "";
+  it("receipt-owed").textContent = visit ? receiptEnd(visit.page) : "";
 }
 
 // Adds a slip to those that are to be printed; each can be printed by itself, also a second time.

@@ -173,7 +173,7 @@ export const TEXTS = {
   slipReady: "Ready at {branch} until {until}",
   slipTransit: "To {branch}",
   slipHold: "Hold {hold}",
-  slipHoldOf: "Hold {hold}, {name}",
+  slipPatron: "Patron {patron}",
   slipCopy: "Copy {copy}",
   slips: "Slips",
   printSlips: "Print the slips",

@@ -155,7 +155,7 @@ export const TEXTS = {
   slipReady: "Bereit in {branch} bis {until}",
   slipTransit: "Nach {branch}",
   slipHold: "Vormerkung {hold}",
-  slipHoldOf: "Vormerkung {hold}, {name}",
+  slipPatron: "Person {patron}",
   slipCopy: "Exemplar {copy}",
   slips: "Laufzettel",
   printSlips: "Laufzettel drucken",

@@ -8,7 +8,7 @@ import { plain } from "../../pages/isolating.js";
 import { LeftBehind, openTabs } from "../../pages/left_behind.js";
 import { LibraryDay } from "../../pages/library_day.js";
 import { Papers } from "../../pages/papers.js";
-import { receiptHead, receiptRow } from "../../pages/receipt.js";
+import { receiptEnd, receiptHead, receiptRow } from "../../pages/receipt.js";
 import { labelOf } from "../../pages/saying.js";
 import { beginsScan, cut, endsScan, itemOf, needsConfirming, scansIn, wanted } from "../../pages/scans.js";
 import { slipLines } from "../../pages/slips.js";
@@ -327,14 +327,14 @@ is(acts(sent), [`begin-day ${dayOf}`, "check-in 1 1"]);
 const roads = (place) => `copy 20 home 2 kind 1 price 1200 title 200 Salt Roads\n${place}`;
 const comesIn = [
   ["fine 0 ready 1 at 1 until 2026-03-07", "ready 1 at 1 until 2026-03-07 patron 2 Bo Carr", "Salt Roads: Ready for Bo Carr, hold 1, at branch 1 until 2026-03-07. No fine.",
-    ["Ready at branch 1 until 2026-03-07", "Hold 1, Bo Carr", "Salt Roads", "Copy 20"]],
-  ["fine 100 transit 2 for 3", "transit 2 for 3 patron 3 Cy Dunn", "Salt Roads: In transit to branch 2, for Cy Dunn, hold 3. Fine: 1.00. Bo Carr owes 1.30 now.", ["To branch 2", "Hold 3, Cy Dunn", "Salt Roads", "Copy 20"]],
-  ["fine 0 transit 2", "transit 2", "Salt Roads: In transit to branch 2. No fine.", ["To branch 2", "Salt Roads", "Copy 20"]],
+    ["Bo Carr", "Patron 2", "Salt Roads", "Ready at branch 1 until 2026-03-07", "Hold 1", "Copy 20", "Town library"]],
+  ["fine 100 transit 2 for 3", "transit 2 for 3 patron 3 Cy Dunn", "Salt Roads: In transit to branch 2, for Cy Dunn, hold 3. Fine: 1.00. Bo Carr owes 1.30 now.", ["To branch 2", "Cy Dunn", "Patron 3", "Salt Roads", "Hold 3", "Copy 20", "Town library"]],
+  ["fine 0 transit 2", "transit 2", "Salt Roads: In transit to branch 2. No fine.", ["To branch 2", "Salt Roads", "Copy 20", "Town library"]],
   ["fine 0 shelf 1", "shelf 1", "Salt Roads: To the shelf, branch 1. No fine.", null],
   ["fine 20 shelf 1", "shelf 1", "Salt Roads: To the shelf, branch 1. Fine: 0.20. Bo Carr owes 1.30 now.", null],
   // moved meanwhile by another desk: nobody is named
   ["fine 0 ready 1 at 1 until 2026-03-07", "loan 4 due 2026-03-16 patron 2 Bo Carr", "Salt Roads: Ready for hold 1 at branch 1 until 2026-03-07. No fine.",
-    ["Ready at branch 1 until 2026-03-07", "Hold 1", "Salt Roads", "Copy 20"]],
+    ["Hold 1", "Salt Roads", "Ready at branch 1 until 2026-03-07", "Copy 20", "Town library"]],
 ];
 // the last of a copy's loans, in the second part of their list, tells who owes its fine
 const many = Array.from({ length: 100 }, (_, at) => `loan ${at + 1} patron 3 made 2026-03-02 due 2026-03-09 ended 2026-03-03`);
@@ -353,8 +353,8 @@ for (const [answer, place, text, slip] of comesIn) {
 const shelfRow = "      hold    copy  patron until      title\n         7      20       1 2026-03-07 Salt Roads\nend";
 for (const [words, answer, place, text, slip] of [
   [["unshelve", "7"], "ready 9 at 1 until 2026-03-12", "ready 9 at 1 until 2026-03-12 patron 3 Cy Dunn", "Salt Roads: Ready for Cy Dunn, hold 9, at branch 1 until 2026-03-12.",
-    [["Ready at branch 1 until 2026-03-12", "Hold 9, Cy Dunn", "Salt Roads", "Copy 20"]]],
-  [["unshelve-cancelled", "7"], "transit 2", "transit 2", "Salt Roads: In transit to branch 2.", [["To branch 2", "Salt Roads", "Copy 20"]]],
+    [["Cy Dunn", "Patron 3", "Salt Roads", "Ready at branch 1 until 2026-03-12", "Hold 9", "Copy 20", "Town library"]]],
+  [["unshelve-cancelled", "7"], "transit 2", "transit 2", "Salt Roads: In transit to branch 2.", [["To branch 2", "Salt Roads", "Copy 20", "Town library"]]],
   [["unshelve", "7"], "shelf 1", "shelf 1", "Salt Roads: To the shelf, branch 1.", []],
 ]) {
   sent = network(turns([reply(answer)], { "shelf 1 6": shelfRow, "copy 20": roads(place) }));
@@ -691,6 +691,7 @@ await until(() => isQuiet(it));
 is(it.receipts.at(-1), [`Ann Bell, ${dayOf}, branch 1`, "Loan 1, due 2026-03-09."]);
 is(it.told.at(-1), ["copy 10, patron 1: Loan 1, due 2026-03-09. The desk's other answers did not come.", true]);
 is(receiptRow(1, ["check-out", "2", "10", "1"], { kind: "lent", loan: 1, due: "2026-03-09" }, null), null);
+is([receiptEnd({ owed: 0 }), receiptEnd({ owed: 1240 })], ["Nothing is owed.", "Owed: 12.40."]);
 
 // ---- what waits where a tab is closed is there again at the next sign-in at its branch on this machine, under its keys, and is sent once the clerk says so
 const machine = new Kept();

@@ -1,6 +1,8 @@
 """What the pages show, in Chromium before a server that answers as each part says: tabs, searches, forms and buttons,
 languages, what everybody needs, and the patron's page. They are run by `tests/tools/browser_hands.py`."""
 
+import base64
+import re
 import threading
 import time
 
@@ -255,6 +257,54 @@ def icon(driver, fake):
         need(f"the icon of {name} is shown", size > 0, True)
         time.sleep(0.5)
         need(f"another file of {name}", [it for it in fake.files if not it.startswith("/pages/")], [])
+
+
+def on_paper(driver, fake):
+    """Slips and receipts are printed black on white also where the system is dark, with no button; each slip has a
+    sheet of its own, and its first line is the largest."""
+    ready = "ready {0} at 1 until 2026-03-07"
+    fake.says(answers({f"check-in {it}": reply(f"fine 0 {ready.format(it)}") for it in (1, 2, 3)} | {
+        f"copy {it}": reply(f"copy {it} home 1 kind 1 price 100 title 7 Tides\n{ready.format(it)} patron 5 Jo Bell")
+        for it in (1, 2, 3)} | {"page 1": reply(f"{PAGE['1']}\nloan 5 due 2026-03-09 renewals 1 title 7 Tides")}))
+    desk = Desk(driver, fake.url, 1)
+    driver.execute_script("window.print = () => {}")
+    desk.keys("1", Keys.ENTER)
+    until("a receipt", lambda: desk.it("receipt-owed").text == "Nothing is owed.")
+    need("the library's name stands at the head of the screen alone", desk.it("receipt-town").is_displayed(), False)
+    dark = {"media": "print", "features": [{"name": "prefers-color-scheme", "value": "dark"}]}
+    seen = """const shown = [...document.querySelectorAll('body *')].filter((it) => it.checkVisibility());
+        const hasText = (it) => [...it.childNodes].some((node) => node.nodeType === 3 && node.data.trim());
+        const printed = shown.filter(hasText), colours = printed.map((it) => getComputedStyle(it).color);
+        const pressed = shown.filter((it) => ['BUTTON', 'INPUT'].includes(it.tagName));
+        return [[...new Set(colours)], getComputedStyle(document.body).backgroundColor, pressed.length,
+            printed.map((it) => it.innerText)];"""
+
+    def printed(button):
+        """The colours, the buttons, the texts and the sheets of what a button prints."""
+        desk.shown(button).click()
+        driver.execute_cdp_cmd("Emulation.setEmulatedMedia", dark)
+        found = driver.execute_script(seen)
+        driver.execute_cdp_cmd("Emulation.setEmulatedMedia", {"media": "", "features": []})
+        sheets = base64.b64decode(driver.execute_cdp_cmd("Page.printToPDF", {})["data"])
+        return *found, len(re.findall(rb"/Type\s*/Page\b", sheets))
+    black = (["rgb(0, 0, 0)"], "rgb(255, 255, 255)", 0)
+    need("a receipt", printed(desk.it("print-receipt"))[:3], black)
+    need("its sheet", printed(desk.it("print-receipt"))[4], 1)
+    desk.mode("check-in")
+    desk.keys("1", Keys.ENTER, "2", Keys.ENTER, "3", Keys.ENTER)
+    until("three slips", lambda: len(driver.find_elements(By.CSS_SELECTOR, "#slip-list article")) == 3)
+    *look, texts, sheets = printed(desk.it("print-slips"))
+    need("the slips", (tuple(look), sheets, texts.count("Jo Bell")), (black, 3, 3))
+    for at in (1, 2, 3):
+        button = driver.find_element(By.CSS_SELECTOR, f"#slip-list article:nth-child({at}) button")
+        *look, texts, sheets = printed(button)
+        need("one slip", (tuple(look), sheets, texts[0], f"Hold {at}" in texts), (black, 1, "Jo Bell", True))
+    need("all of them again", printed(desk.it("print-slips"))[4], 3)
+    driver.execute_cdp_cmd("Emulation.setEmulatedMedia", {"media": "print"})
+    sizes = driver.execute_script("""return [...document.querySelectorAll('#slip-list article:last-child p')]
+        .map((it) => parseFloat(getComputedStyle(it).fontSize))""")
+    driver.execute_cdp_cmd("Emulation.setEmulatedMedia", {"media": ""})
+    need("the first line is the largest", sizes[0] > 2 * max(sizes[1:]), True)
 
 
 def german(driver, fake):

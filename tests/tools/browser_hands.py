@@ -112,7 +112,9 @@ def receipts(driver, fake):
     rows = ["Rivers of the North, due 2026-03-09", "Paid 0.60, still owed 0.40"]
     need("the receipt", desk.items("receipt"), rows)
     driver.execute_cdp_cmd("Emulation.setEmulatedMedia", {"media": "print"})
-    need("what is printed", driver.execute_script("return document.body.innerText").split("\n\n"), ["Receipt", f"Ann Bell, {time.strftime('%Y-%m-%d')}, branch 1", "\n".join(rows)])
+    head = f"Ann Bell, {time.strftime('%Y-%m-%d')}, branch 1"
+    sheet = ["Receipt", "Town library", head, "\n".join(rows), "Owed: 0.40."]
+    need("what is printed", driver.execute_script("return document.body.innerText").split("\n\n"), sheet)
     driver.execute_cdp_cmd("Emulation.setEmulatedMedia", {"media": ""})
     need("no card key is shown or kept", "cardkey" in driver.page_source + str(desk.stored()), False)
 
@@ -764,7 +766,9 @@ def slips(driver, fake):
     until("a book for the shelf", lambda: desk.told() == "Tides: To the shelf, branch 1. No fine.")
     need("what each was told", desk.items("last")[1:], ["check-in 11 1: Rivers of the North: In transit to branch 2, for Cy Dunn, hold 2. No fine.",
                                                        "check-in 20 1: Salt Roads: Ready for Bo Carr, hold 1, at branch 1 until 2026-03-07. No fine."])
-    both = [["Ready at branch 1 until 2026-03-07", "Hold 1, Bo Carr", "Salt Roads", "Copy 20"], ["To branch 2", "Hold 2, Cy Dunn", "Rivers of the North", "Copy 11"]]
+    town, ready = "Town library", "Ready at branch 1 until 2026-03-07"
+    both = [["Bo Carr", "Patron 2", "Salt Roads", ready, "Hold 1", "Copy 20", town],
+            ["To branch 2", "Cy Dunn", "Patron 3", "Rivers of the North", "Hold 2", "Copy 11", town]]
     need("the slips", printed(driver, "print-slips"), ["1", *both[0], *both[1]])
     # both outlive a reload, and so does what was told; and each can be printed by itself
     notes = desk.items("last")
@@ -814,7 +818,7 @@ def another_day(driver, fake):
     need("320 pixels", desk.fits(320), True)
 
 
-PARTS = (views.tabs, views.searching, views.acting, views.lends_alone, views.left_alone, views.icon,
+PARTS = (views.tabs, views.searching, views.acting, views.lends_alone, views.left_alone, views.icon, views.on_paper,
          views.german, views.for_everybody, views.patrons_page, views.calendar_of_year, lists, past_their_day,
          slips, fast_scans, refused_scans,
          unread_answers, receipts, signed_out, telephone, opening, scanners, hands_at_the_desk, another_day,
