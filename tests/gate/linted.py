@@ -16,7 +16,7 @@ from lib.checking import check, none, run_script
 
 COLUMNS = 119
 # So many lines of Python have more. It is made smaller when lines are, and never larger.
-LONG = 1634
+LONG = 1630
 # A script of the gate imports its room, so that it finds lib and reference.
 MEANT = "'room' imported but unused"
 # for each tool a script, and what is wrong with it
