@@ -2,7 +2,7 @@
 use Rattle.std.specs.Prelude.{◌≡◌, ℕ, List, [], ◌∷◌, map, codes, Option, Some, None, option_map, true, false, refl}
 use Rattle.terms.specs.Forms.{is_outside_key}
 use Rattle.terms.specs.declared.command.Command.TheVariants.{CheckOut, CheckIn, Renew, Page, Pay, Waive, Ask}
-use Rattle.terms.specs.declared.question.Question.TheVariants.{Copy, Copies, Borrower, Account, Today}
+use Rattle.terms.specs.declared.question.Question.TheVariants.{Copy, Copies, Borrower, Account, FindBarcode, Today}
 use Rattle.clerks.specs.Clerks.{may_send, key_given_by, sole_clerk, clerk_of}
 use Rattle.clerks.specs.declared.clerk.Role.TheVariants as role
 use Rattle.clerks.specs.declared.clerk.Clerk.{Clerk}
@@ -26,8 +26,9 @@ unfolding clerk_of
 first_with_a_key = refl
 
 -- What a machine may send that only lends.
-sent_by_lending : map (may_send role.Lending) (CheckOut 1 10 1 ∷ CheckIn 10 1 ∷ Renew 1 ∷ Page 1 ∷ Ask (Copy 10) ∷ Ask (Borrower 1) ∷ Ask Today ∷ [])
-    ≡ true ∷ true ∷ true ∷ true ∷ true ∷ true ∷ true ∷ []
+sent_by_lending : map (may_send role.Lending) (CheckOut 1 10 1 ∷ CheckIn 10 1 ∷ Renew 1 ∷ Page 1 ∷ Ask (Copy 10) ∷ Ask (Borrower 1)
+    ∷ Ask (FindBarcode (codes "30000100000010")) ∷ Ask Today ∷ [])
+    ≡ true ∷ true ∷ true ∷ true ∷ true ∷ true ∷ true ∷ true ∷ []
 sent_by_lending = refl
 
 not_sent_by_lending : map (may_send role.Lending) (Pay 1 10 ∷ Waive 1 10 ∷ Ask (Account 1 0) ∷ Ask (Copies 100 0) ∷ []) ≡ false ∷ false ∷ false ∷ false ∷ []

@@ -4,7 +4,7 @@ use Rattle.terms.specs.Forms.{is_outside_key, clerk_key}
 use Rattle.terms.specs.declared.command.Command.{Command}
 use Rattle.terms.specs.declared.command.Command.TheVariants.{CheckOut, CheckIn, Renew, Page, Ask}
 use Rattle.terms.specs.declared.question.Question.{Question}
-use Rattle.terms.specs.declared.question.Question.TheVariants.{Copy, Borrower, Today}
+use Rattle.terms.specs.declared.question.Question.TheVariants.{Copy, Borrower, FindBarcode, Today}
 use Rattle.clerks.specs.declared.clerk.Role.{Role}
 use Rattle.clerks.specs.declared.clerk.Role.TheVariants as role
 use Rattle.clerks.specs.declared.clerk.Clerk.{Clerk}
@@ -13,6 +13,7 @@ use Rattle.clerks.specs.declared.clerk.Clerk.{Clerk}
 abbrev pub is_asked_by_lending : Question → Bool
 is_asked_by_lending (Copy copy) = true
 is_asked_by_lending (Borrower patron) = true
+is_asked_by_lending (FindBarcode barcode) = true
 is_asked_by_lending Today = true
 is_asked_by_lending _ = false
 

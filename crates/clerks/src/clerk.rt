@@ -13,7 +13,7 @@ pub enum Role {
     /// Every command and question.
     Desk,
     /// What a self-service machine needs: `check-out`, `check-in`, `renew`, `page`, `copy`,
-    /// `borrower` and `today`.
+    /// `borrower`, `find-barcode` and `today`.
     Lending,
 }
 
@@ -30,7 +30,10 @@ impl Role {
                 | Command::Renew { .. }
                 | Command::Page { .. } => true,
                 Command::Ask(question) => match question {
-                    Question::Copy { .. } | Question::Borrower { .. } | Question::Today => true,
+                    Question::Copy { .. }
+                    | Question::Borrower { .. }
+                    | Question::FindBarcode { .. }
+                    | Question::Today => true,
                     _ => false,
                 },
                 _ => false,

@@ -5,10 +5,10 @@ use Rattle.std.specs.Prelude.{slice_get}
 use Rattle.std.specs.Borrow.{Bor}
 use Rattle.std.specs.Fmt.{decimal}
 use Rattle.calendar.specs.Days.{IsDayNumber, day_text}
-use Rattle.terms.specs.Forms.{is_card_key, is_name}
+use Rattle.terms.specs.Forms.{is_card_key, is_barcode, is_name}
 use Rattle.terms.specs.Commands.{AreSayable, Column, IsNoCommand, IsNoDay, IsNoNumber, IsReadAs, Text, commands, kind_of, parts_in, texts}
 use Rattle.terms.specs.Laws.{AreParts}
-use Rattle.terms.specs.Texts.{Part, Number, Amount, Day, Mask, CardKey, Name, said, word_of, command_words, mask_text}
+use Rattle.terms.specs.Texts.{Part, Number, Amount, Day, Mask, CardKey, Barcode, Name, said, word_of, command_words, mask_text}
 use Rattle.terms.specs.declared.command.Command.{Command}
 use Rattle.terms.specs.declared.form.PartKind.{PartKind}
 use Rattle.terms.specs.declared.form.PartKind.TheVariants as kind
@@ -21,6 +21,7 @@ HasKind kind.Amount word = (n : ℕ) × (n < 2 ^ 32) × (word ≡ decimal n)
 HasKind kind.Day word = (n : ℕ) × IsDayNumber n × (word ≡ day_text n)
 HasKind kind.Mask word = (closed : List Bool) × (length closed ≡ 7) × (word ≡ mask_text closed)
 HasKind kind.CardKey word = is_card_key word ≡ true
+HasKind kind.Barcode word = is_barcode word ≡ true
 HasKind kind.Name word = is_name word ≡ true
 
 abbrev HaveKinds : List PartKind → List Text → Type 0
@@ -36,6 +37,7 @@ have_kinds (Amount n ∷ parts) h s = ((n, s.0, refl), have_kinds parts h.1 s.1)
 have_kinds (Day n ∷ parts) h s = ((n, h.0, refl), have_kinds parts h.1 s.1)
 have_kinds (Mask closed ∷ parts) h s = ((closed, h.0, refl), have_kinds parts h.1 s.1)
 have_kinds (CardKey t ∷ parts) h s = (h.0, have_kinds parts h.1 s.1)
+have_kinds (Barcode t ∷ parts) h s = (h.0, have_kinds parts h.1 s.1)
 have_kinds (Name t ∷ parts) h s = (h.0.0, have_kinds parts h.1 s.1)
 
 -- the kinds of the parts that the table has under a name

@@ -3,8 +3,10 @@ use Rattle.std.specs.Prelude.{◌≡◌, List, [], ◌∷◌, map, codes, option
 use Rattle.std.specs.Fmt.{digits}
 use Rattle.calendar.specs.Days.{day_text, civil_of}
 use Rattle.terms.specs.Callers.{owner_of, owner_number}
+use Rattle.terms.specs.Things.{thing_number, thing_sort}
 use Rattle.terms.specs.Commands.{commands, parts_in, kind_of}
-use Rattle.terms.specs.Forms.{is_name, is_alphanumeric, is_card_key, is_outside_key, is_clerk_name, clerk_key, is_clerk_key, is_key}
+use Rattle.terms.specs.Forms.{is_name, is_alphanumeric, is_card_key, is_barcode, is_outside_key, is_clerk_name, clerk_key, is_clerk_key, is_key}
+use Rattle.terms.specs.Pictures.{same_thing}
 use Rattle.terms.specs.Money.{fine_for}
 use Rattle.terms.specs.Texts.{said, mask_text, command_words, request_text, routed_words, refusal_number, fault_number, service_fault_number, reply_words, reply_text}
 use Rattle.terms.specs.declared.command.Caller.TheVariants as caller
@@ -12,12 +14,14 @@ use Rattle.terms.specs.declared.command.Owner.TheVariants as owner
 use Rattle.terms.specs.declared.command.Command.{Command}
 use Rattle.terms.specs.declared.command.Command.TheVariants.{BeginDay, Branch, Week, CloseDay, OpenDay, Kind, Rule, Grace, Patron, Acquire}
 use Rattle.terms.specs.declared.command.Command.TheVariants.{SetCardKey, AmendPatron, AmendBranch, AmendTitle, AmendCopy, Rehome}
+use Rattle.terms.specs.declared.command.Command.TheVariants.{CopyBarcode, PatronBarcode, DropBarcode, Charge, PayAt}
 use Rattle.terms.specs.declared.command.Command.TheVariants.{CheckOut, CheckIn, Renew, PlaceHold, CancelHold, Unshelve, UnshelveCancelled}
 use Rattle.terms.specs.declared.command.Command.TheVariants.{Missing, Withdraw, Pay, Waive, Page, Ask}
 use Rattle.terms.specs.declared.question.Question.TheVariants as question
 use Rattle.terms.specs.declared.refusal.Refusal.TheVariants as refusal
 use Rattle.terms.specs.declared.fault.Fault.TheVariants as fault
 use Rattle.terms.specs.declared.fault.ServiceFault.TheVariants as service
+use Rattle.terms.specs.declared.row.Thing.TheVariants as thing
 use Rattle.terms.specs.declared.reply.Routed.TheVariants.{Shelf, HoldShelf, Transit}
 use Rattle.terms.specs.declared.reply.Reply.TheVariants.{Done, Lent, CheckedIn, Held, Moved, Lost, Owed, Shown, Refused}
 
@@ -29,9 +33,11 @@ texts_of_settings : map request_text
 unfolding digits request_text command_words
 texts_of_settings = refl
 
-texts_of_days : map request_text (BeginDay 11016 ∷ CloseDay 1 11016 ∷ OpenDay 2 11016 ∷ PlaceHold 3 100 4 (Some 11016) ∷ Ask (question.Till 11016) ∷ [])
+texts_of_days : map request_text (BeginDay 11016 ∷ CloseDay 1 11016 ∷ OpenDay 2 11016 ∷ PlaceHold 3 100 4 (Some 11016) ∷ Ask (question.Till 11016)
+    ∷ Ask (question.TillAt 5 11016) ∷ [])
     ≡ map codes
-    ("begin-day 2000-02-29" ∷ "close-day 1 2000-02-29" ∷ "open-day 2 2000-02-29" ∷ "place-hold-from 3 100 4 2000-02-29" ∷ "till 2000-02-29" ∷ [])
+    ("begin-day 2000-02-29" ∷ "close-day 1 2000-02-29" ∷ "open-day 2 2000-02-29" ∷ "place-hold-from 3 100 4 2000-02-29" ∷ "till 2000-02-29"
+    ∷ "till-at 5 2000-02-29" ∷ [])
 unfolding digits day_text civil_of request_text command_words
 texts_of_days = refl
 
@@ -52,6 +58,15 @@ texts_of_lending : map request_text
     ∷ "waive 8 30" ∷ "page 9" ∷ [])
 unfolding digits request_text command_words
 texts_of_lending = refl
+
+texts_of_labels_and_charges : map request_text
+    (CopyBarcode 10 (codes "30000100000010") ∷ PatronBarcode 7 (codes "0A1") ∷ DropBarcode (codes "a01") ∷ Charge 7 250 2 (codes "Photocopies, 10 pages")
+    ∷ PayAt 7 100 3 ∷ Ask (question.FindBarcode (codes "3x")) ∷ [])
+    ≡ map codes
+    ("copy-barcode 10 30000100000010" ∷ "patron-barcode 7 0A1" ∷ "drop-barcode a01" ∷ "charge 7 250 2 Photocopies, 10 pages"
+    ∷ "pay-at 7 100 3" ∷ "find-barcode 3x" ∷ [])
+unfolding digits request_text command_words
+texts_of_labels_and_charges = refl
 
 texts_of_questions : map (λ asked. request_text (Ask asked))
     (question.Copy 10 ∷ question.Copies 100 9 ∷ question.Queue 100 8 ∷ question.Account 7 6 ∷ question.Debts 5 ∷ question.Overdue 1 4 ∷ question.Shelf 2 3 ∷ question.Pulls 1 9
@@ -80,11 +95,12 @@ abbrev each : List Command
 each =
     BeginDay 11016 ∷ Branch 1 5 [] ∷ Week 2 [] ∷ CloseDay 1 11016 ∷ OpenDay 2 11016 ∷ Kind 3 4 6 500 ∷ Rule 1 2 28 3 20 1000 ∷ Grace 4 5 6
     ∷ Patron 7 1 [] [] ∷ Acquire 10 100 2 3 2500 [] ∷ SetCardKey 7 [] ∷ AmendPatron 7 2 [] ∷ AmendBranch 1 4 [] ∷ AmendTitle 100 [] ∷ AmendCopy 10 3 2400
-    ∷ Rehome 10 2 ∷ CheckOut 7 10 2 ∷ CheckIn 10 2 ∷ Renew 5 ∷ PlaceHold 3 100 4 None ∷ PlaceHold 3 100 4 (Some 11016) ∷ CancelHold 5 ∷ Unshelve 6
-    ∷ UnshelveCancelled 7 ∷ Missing 10 ∷ Withdraw 11 ∷ Pay 7 250 ∷ Waive 8 30 ∷ Page 9
+    ∷ Rehome 10 2 ∷ CopyBarcode 10 [] ∷ PatronBarcode 7 [] ∷ DropBarcode [] ∷ CheckOut 7 10 2 ∷ CheckIn 10 2 ∷ Renew 5 ∷ PlaceHold 3 100 4 None ∷ PlaceHold 3 100 4 (Some 11016) ∷ CancelHold 5 ∷ Unshelve 6
+    ∷ UnshelveCancelled 7 ∷ Missing 10 ∷ Withdraw 11 ∷ Pay 7 250 ∷ Waive 8 30 ∷ Charge 7 250 2 [] ∷ PayAt 7 100 3 ∷ Page 9
     ∷ map Ask (question.Copy 10 ∷ question.Copies 100 9 ∷ question.Queue 100 8 ∷ question.Account 7 6 ∷ question.Debts 5 ∷ question.Overdue 1 4 ∷ question.Shelf 2 3
     ∷ question.Pulls 1 9 ∷ question.Transits 2 8 ∷ question.Till 11016 ∷ question.Today ∷ question.Borrower 7 ∷ question.FindPatrons 3 [] ∷ question.FindTitles 4 []
-    ∷ question.Branches 0 ∷ question.ClosedDays 1 11016 ∷ question.Kinds 2 ∷ question.Rules 1 2 ∷ question.MissingCopies 9 ∷ question.Loans 10 3 ∷ [])
+    ∷ question.Branches 0 ∷ question.ClosedDays 1 11016 ∷ question.Kinds 2 ∷ question.Rules 1 2 ∷ question.MissingCopies 9 ∷ question.Loans 10 3
+    ∷ question.FindBarcode [] ∷ question.TillAt 5 11016 ∷ [])
 
 -- What a command says has the kinds that the table of commands has under its name.
 kinds_of_parts : map (λ command. Some (map kind_of (said command).1)) each
@@ -108,17 +124,31 @@ texts_of_replies_with_days = refl
 
 numbers_of_refusals : map refusal_number
     (refusal.UnknownBranch ∷ refusal.UnknownPatron ∷ refusal.UnknownTitle ∷ refusal.UnknownCopy ∷ refusal.UnknownLoan ∷ refusal.UnknownHold ∷ refusal.NoRule
-    ∷ refusal.UnknownKind ∷ refusal.OtherContent ∷ refusal.OutOfLimits ∷ refusal.AllWeekdaysClosed ∷ refusal.BadDay ∷ refusal.AlreadyClosed ∷ refusal.NotClosed
+    ∷ refusal.UnknownKind ∷ refusal.UnknownBarcode ∷ refusal.OtherContent ∷ refusal.OutOfLimits ∷ refusal.AllWeekdaysClosed ∷ refusal.BadDay ∷ refusal.AlreadyClosed ∷ refusal.NotClosed ∷ refusal.BarcodeTaken
     ∷ refusal.Elsewhere ∷ refusal.OnLoan ∷ refusal.InTransit ∷ refusal.OnHoldShelf ∷ refusal.CopyMissing ∷ refusal.CopyWithdrawn ∷ refusal.HoldWaits
     ∷ refusal.TooManyLoans ∷ refusal.OwesTooMuch ∷ refusal.PastCalendar ∷ refusal.LoanEnded ∷ refusal.Overdue ∷ refusal.NoRenewalsLeft ∷ refusal.AlreadyHolds
     ∷ refusal.TooManyHolds ∷ refusal.HasOnLoan ∷ refusal.WrongHoldState ∷ refusal.LimitNotPassed ∷ refusal.BadAmount ∷ refusal.NumbersUsedUp ∷ refusal.KeyUsed
     ∷ refusal.NotAllowed ∷ [])
-    ≡ 10 ∷ 11 ∷ 12 ∷ 13 ∷ 14 ∷ 15 ∷ 16 ∷ 17 ∷ 20 ∷ 21 ∷ 22 ∷ 23 ∷ 24 ∷ 25 ∷ 30 ∷ 31 ∷ 32 ∷ 33 ∷ 34 ∷ 35 ∷ 36 ∷ 37 ∷ 38 ∷ 39 ∷ 40 ∷ 41 ∷ 42 ∷ 50 ∷ 51 ∷ 52 ∷ 53 ∷ 54 ∷ 60 ∷ 70 ∷ 80
+    ≡ 10 ∷ 11 ∷ 12 ∷ 13 ∷ 14 ∷ 15 ∷ 16 ∷ 17 ∷ 18 ∷ 20 ∷ 21 ∷ 22 ∷ 23 ∷ 24 ∷ 25 ∷ 26 ∷ 30 ∷ 31 ∷ 32 ∷ 33 ∷ 34 ∷ 35 ∷ 36 ∷ 37 ∷ 38 ∷ 39 ∷ 40 ∷ 41 ∷ 42 ∷ 50 ∷ 51 ∷ 52 ∷ 53 ∷ 54 ∷ 60 ∷ 70 ∷ 80
     ∷ 81 ∷ []
 numbers_of_refusals = refl
 
 numbers_of_faults : map service_fault_number (service.Met fault.Memory ∷ service.Met fault.Database ∷ service.Closed ∷ service.Met fault.Stored ∷ []) ≡ 90 ∷ 91 ∷ 92 ∷ 93 ∷ []
 numbers_of_faults = refl
+
+-- ---- what barcodes are of
+
+sorts_of_things : map thing_sort (thing.Patron 7 ∷ thing.Copy 10 ∷ []) ≡ 0 ∷ 1 ∷ []
+sorts_of_things = refl
+
+numbers_of_things : map thing_number (thing.Patron 7 ∷ thing.Copy 10 ∷ []) ≡ 7 ∷ 10 ∷ []
+numbers_of_things = refl
+
+-- A patron and a copy of one number are different things.
+same_things : same_thing (thing.Patron 7) (thing.Patron 7) ∷ same_thing (thing.Copy 7) (thing.Copy 7) ∷ same_thing (thing.Patron 7) (thing.Patron 8)
+    ∷ same_thing (thing.Copy 7) (thing.Copy 8) ∷ same_thing (thing.Patron 7) (thing.Copy 7) ∷ same_thing (thing.Copy 7) (thing.Patron 7) ∷ []
+    ≡ true ∷ true ∷ false ∷ false ∷ false ∷ false ∷ []
+same_things = refl
 
 -- ---- callers and money
 
@@ -164,6 +194,11 @@ clerk_names : map is_clerk_name ([] ∷ codes "a" ∷ codes "Ann2" ∷ codes "an
     ≡ false ∷ true ∷ true ∷ false ∷ true ∷ false ∷ []
 unfolding is_clerk_name
 clerk_names = refl
+
+barcodes : map is_barcode ([] ∷ codes "1" ∷ codes "30000100000010" ∷ codes "aZ09" ∷ codes "A-1" ∷ codes "A 1" ∷ replicate 24 48 ∷ replicate 25 48 ∷ [])
+    ≡ false ∷ true ∷ true ∷ true ∷ false ∷ false ∷ true ∷ false ∷ []
+unfolding is_barcode
+barcodes = refl
 
 any_keys : map is_key ([] ∷ codes "a1" ∷ codes "r-1" ∷ codes "a b" ∷ codes "a_b" ∷ codes "ann/r-1" ∷ codes "ann/" ∷ codes "/r1" ∷ codes "ann/a/r1" ∷ codes "an-n/r1" ∷ [])
     ≡ false ∷ true ∷ true ∷ true ∷ false ∷ true ∷ false ∷ false ∷ false ∷ false ∷ []

@@ -6,13 +6,13 @@ use Rattle.std.proofs.lemmas.Bool.{false≢true}
 use Rattle.terms.specs.Forms.{has_no_space}
 use Rattle.terms.specs.Commands.{commands, kind_of, parts_in}
 use Rattle.terms.specs.Laws.{IsPart, AreParts, IsCommand, RequestTextsDiffer}
-use Rattle.terms.specs.Texts.{Part, Number, Amount, Day, Mask, CardKey, Name, said, word_of, command_words, request_text}
+use Rattle.terms.specs.Texts.{Part, Number, Amount, Day, Mask, CardKey, Barcode, Name, said, word_of, command_words, request_text}
 use Rattle.terms.specs.declared.command.Command.{Command}
 use Rattle.terms.specs.declared.form.PartKind.{PartKind}
 use Rattle.terms.specs.declared.form.PartKind.TheVariants as kind
 use Rattle.terms.proofs.TableLemmas.{are_apart, command_from, is_low, is_spaceless, told}
 use Rattle.terms.proofs.WordLemmas.{both_true, closed_by, closed_by-mask_text, day_below, day_below-day_text, first_word, first_word-alone, first_word-append}
-use Rattle.terms.proofs.WordLemmas.{no_space-card_key, no_space-decimal, number, number-decimal, other_words, other_words-append}
+use Rattle.terms.proofs.WordLemmas.{no_space-barcode, no_space-card_key, no_space-decimal, number, number-decimal, other_words, other_words-append}
 
 -- no word but the last has a space
 AreApart : List (List ℕ) → Type 0
@@ -42,6 +42,7 @@ spaceless : (part : Part) → IsPart part → is_spaceless part ≡ true → has
 spaceless (Number n) h e = no_space-decimal n (omega (arith, h))
 spaceless (Amount n) h e = no_space-decimal n (omega (arith, h))
 spaceless (CardKey t) h e = no_space-card_key t h
+spaceless (Barcode t) h e = no_space-barcode t h
 spaceless (Day n) h e = absurd (false≢true e)
 spaceless (Mask closed) h e = absurd (false≢true e)
 spaceless (Name t) h e = absurd (false≢true e)
@@ -67,6 +68,7 @@ part_from kind.Amount t = Amount (number t)
 part_from kind.Day t = Day (day_below 84006 t)
 part_from kind.Mask t = Mask (closed_by t)
 part_from kind.CardKey t = CardKey t
+part_from kind.Barcode t = Barcode t
 part_from kind.Name t = Name t
 
 part_from-word_of : (part : Part) → IsPart part → part_from (kind_of part) (word_of part) ≡ part
@@ -76,6 +78,7 @@ part_from-word_of (Amount n) h = ap Amount (number-decimal n (omega (arith, h)))
 part_from-word_of (Day n) h = ap Day (day_below-day_text 84006 n (omega (arith, h)) (omega arith))
 part_from-word_of (Mask closed) h = ap Mask (closed_by-mask_text closed h)
 part_from-word_of (CardKey t) h = refl
+part_from-word_of (Barcode t) h = refl
 part_from-word_of (Name t) h = refl
 
 parts_from : List PartKind → List (List ℕ) → List Part

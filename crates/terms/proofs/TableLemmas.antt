@@ -7,11 +7,12 @@ use Rattle.std.specs.List.{list_all}
 use Rattle.std.specs.Str.{bytes_eq}
 use Rattle.terms.specs.Forms.{has_no_space, is_outside_key}
 use Rattle.terms.specs.Commands.{Column, IsListed, Text, commands, kind_of, line, parts_in}
-use Rattle.terms.specs.Texts.{Part, Number, Amount, Day, Mask, CardKey, Name, said}
+use Rattle.terms.specs.Texts.{Part, Number, Amount, Day, Mask, CardKey, Barcode, Name, said}
 use Rattle.terms.specs.declared.command.Command.{Command}
 use Rattle.terms.specs.declared.form.CommandForm.{CommandForm}
 use Rattle.terms.specs.declared.command.Command.TheVariants.{BeginDay, Branch, Week, CloseDay, OpenDay, Kind, Rule, Grace, Patron, Acquire}
 use Rattle.terms.specs.declared.command.Command.TheVariants.{SetCardKey, AmendPatron, AmendBranch, AmendTitle, AmendCopy, Rehome}
+use Rattle.terms.specs.declared.command.Command.TheVariants.{CopyBarcode, PatronBarcode, DropBarcode, Charge, PayAt}
 use Rattle.terms.specs.declared.command.Command.TheVariants.{CheckOut, CheckIn, Renew, PlaceHold, CancelHold, Unshelve, UnshelveCancelled}
 use Rattle.terms.specs.declared.command.Command.TheVariants.{Missing, Withdraw, Pay, Waive, Page, Ask}
 use Rattle.terms.specs.declared.question.Question.{Question}
@@ -21,11 +22,12 @@ use Rattle.terms.specs.declared.question.Question.TheVariants as question
 abbrev pub is_low : List ℕ → Bool
 is_low = list_all (λ b. nat_lt b 128)
 
--- the word of the part has no space, as every number and every card key has none
+-- the word of the part has no space, as every number, card key and barcode has none
 abbrev pub is_spaceless : Part → Bool
 is_spaceless (Number _) = true
 is_spaceless (Amount _) = true
 is_spaceless (CardKey _) = true
+is_spaceless (Barcode _) = true
 is_spaceless (Day _) = false
 is_spaceless (Mask _) = false
 is_spaceless (Name _) = false
@@ -48,6 +50,7 @@ number_in (Amount n) = n
 number_in (Day n) = n
 number_in (Mask _) = 0
 number_in (CardKey _) = 0
+number_in (Barcode _) = 0
 number_in (Name _) = 0
 
 abbrev text_in : Part → List ℕ
@@ -56,6 +59,7 @@ text_in (Amount _) = []
 text_in (Day _) = []
 text_in (Mask _) = []
 text_in (CardKey t) = t
+text_in (Barcode t) = t
 text_in (Name t) = t
 
 abbrev days_in : Part → List Bool
@@ -64,6 +68,7 @@ days_in (Amount _) = []
 days_in (Day _) = []
 days_in (Mask closed) = closed
 days_in (CardKey _) = []
+days_in (Barcode _) = []
 days_in (Name _) = []
 
 -- the command with this name and these parts
@@ -87,6 +92,9 @@ command_from name parts =
     else (if bytes_eq name (codes "amend-title") then AmendTitle (n 0) (t 1)
     else (if bytes_eq name (codes "amend-copy") then AmendCopy (n 0) (n 1) (n 2)
     else (if bytes_eq name (codes "rehome") then Rehome (n 0) (n 1)
+    else (if bytes_eq name (codes "copy-barcode") then CopyBarcode (n 0) (t 1)
+    else (if bytes_eq name (codes "patron-barcode") then PatronBarcode (n 0) (t 1)
+    else (if bytes_eq name (codes "drop-barcode") then DropBarcode (t 0)
     else (if bytes_eq name (codes "check-out") then CheckOut (n 0) (n 1) (n 2)
     else (if bytes_eq name (codes "check-in") then CheckIn (n 0) (n 1)
     else (if bytes_eq name (codes "renew") then Renew (n 0)
@@ -99,6 +107,8 @@ command_from name parts =
     else (if bytes_eq name (codes "withdraw") then Withdraw (n 0)
     else (if bytes_eq name (codes "pay") then Pay (n 0) (n 1)
     else (if bytes_eq name (codes "waive") then Waive (n 0) (n 1)
+    else (if bytes_eq name (codes "charge") then Charge (n 0) (n 1) (n 2) (t 3)
+    else (if bytes_eq name (codes "pay-at") then PayAt (n 0) (n 1) (n 2)
     else (if bytes_eq name (codes "copy") then Ask (question.Copy (n 0))
     else (if bytes_eq name (codes "copies") then Ask (question.Copies (n 0) (n 1))
     else (if bytes_eq name (codes "queue") then Ask (question.Queue (n 0) (n 1))
@@ -119,7 +129,9 @@ command_from name parts =
     else (if bytes_eq name (codes "rules") then Ask (question.Rules (n 0) (n 1))
     else (if bytes_eq name (codes "missing-copies") then Ask (question.MissingCopies (n 0))
     else (if bytes_eq name (codes "loans") then Ask (question.Loans (n 0) (n 1))
-    else Page (n 0))))))))))))))))))))))))))))))))))))))))))))))))
+    else (if bytes_eq name (codes "find-barcode") then Ask (question.FindBarcode (t 0))
+    else (if bytes_eq name (codes "till-at") then Ask (question.TillAt (n 0) (n 1))
+    else Page (n 0)))))))))))))))))))))))))))))))))))))))))))))))))))))))
 
 pub record IsTold (command : Command) : Type 0 where
   pub parts : List Column

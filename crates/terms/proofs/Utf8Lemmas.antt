@@ -10,8 +10,8 @@ use Rattle.std.proofs.lemmas.Str.{IsUtf8-from_ascii, IsUtf8-append, IsUtf8-nil}
 use Rattle.std.proofs.lemmas.Fmt.{IsAscii-decimal}
 use Rattle.calendar.specs.Days.{IsDayNumber, day_text, date_text}
 use Rattle.calendar.proofs.DayLemmas.{day_text-written}
-use Rattle.terms.specs.Forms.{has_no_space, is_alphanumeric, is_card_key}
-use Rattle.terms.specs.Texts.{Part, Number, Amount, Day, Mask, CardKey, Name, said, word_of, mask_text, command_words, request_text}
+use Rattle.terms.specs.Forms.{has_no_space, is_alphanumeric, is_barcode, is_card_key}
+use Rattle.terms.specs.Texts.{Part, Number, Amount, Day, Mask, CardKey, Barcode, Name, said, word_of, mask_text, command_words, request_text}
 use Rattle.terms.specs.Texts.{routed_words, reply_words, reply_text}
 use Rattle.terms.specs.Laws.{IsPart, AreParts, IsCommand, IsNumber, IsAmount, IsRouted, IsKept}
 use Rattle.terms.specs.declared.command.Command.{Command}
@@ -81,6 +81,13 @@ card_key-IsUtf8 t h =
     let q = both_true _ _ p.1 in
     low-IsUtf8 t (low_letters t q.1)
 
+pub barcode-IsUtf8 : (t : List ℕ) → is_barcode t ≡ true → IsUtf8 t
+unfolding is_barcode
+barcode-IsUtf8 t h =
+    let p = both_true _ _ h in
+    let q = both_true _ _ p.1 in
+    low-IsUtf8 t (low_letters t q.1)
+
 -- ---- words, joined by spaces
 
 -- Each of the words is UTF-8.
@@ -102,6 +109,7 @@ part-IsUtf8 (Amount n) h = amount-IsUtf8 n h
 part-IsUtf8 (Day n) h = day-IsUtf8 n h
 part-IsUtf8 (Mask closed) h = mask-IsUtf8 closed
 part-IsUtf8 (CardKey t) h = card_key-IsUtf8 t h
+part-IsUtf8 (Barcode t) h = barcode-IsUtf8 t h
 part-IsUtf8 (Name t) h = h.1
 
 parts-are : (parts : List Part) → AreParts parts → AreUtf8 (map word_of parts)

@@ -13,7 +13,7 @@ use Rattle.std.proofs.lemmas.Fmt.{decimal_is_IsNumeral}
 use Rattle.std.proofs.lemmas.Str.Parse.{digit_from_value}
 use Rattle.calendar.specs.Days.{day_text}
 use Rattle.calendar.proofs.DayLemmas.{day_text_injective}
-use Rattle.terms.specs.Forms.{is_alphanumeric, is_card_key, has_no_space}
+use Rattle.terms.specs.Forms.{is_alphanumeric, is_barcode, is_card_key, has_no_space}
 use Rattle.terms.specs.Texts.{mask_text}
 
 -- what stands before the first space, and what after it
@@ -130,6 +130,13 @@ no_space-alphanumeric (b ∷ t) h =
 pub no_space-card_key : (t : List ℕ) → is_card_key t ≡ true → has_no_space t ≡ true
 unfolding is_card_key
 no_space-card_key t h =
+    let p = both_true _ _ h in
+    let q = both_true _ _ p.1 in
+    no_space-alphanumeric t q.1
+
+pub no_space-barcode : (t : List ℕ) → is_barcode t ≡ true → has_no_space t ≡ true
+unfolding is_barcode
+no_space-barcode t h =
     let p = both_true _ _ h in
     let q = both_true _ _ p.1 in
     no_space-alphanumeric t q.1

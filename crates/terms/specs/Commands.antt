@@ -4,9 +4,9 @@ use Rattle.std.specs.Borrow.{Bor}
 use Rattle.std.specs.Fmt.{decimal}
 use Rattle.std.specs.Str.{bytes_eq}
 use Rattle.calendar.specs.Days.{IsDayNumber, day_text}
-use Rattle.terms.specs.Forms.{is_card_key, is_name}
+use Rattle.terms.specs.Forms.{is_card_key, is_barcode, is_name}
 use Rattle.terms.specs.Laws.{IsCommand}
-use Rattle.terms.specs.Texts.{Part, Number, Amount, Day, Mask, CardKey, Name, said, command_words, mask_text}
+use Rattle.terms.specs.Texts.{Part, Number, Amount, Day, Mask, CardKey, Barcode, Name, said, command_words, mask_text}
 use Rattle.terms.specs.declared.command.Command.{Command}
 use Rattle.terms.specs.declared.form.PartKind.{PartKind}
 use Rattle.terms.specs.declared.form.PartKind.TheVariants as kind
@@ -28,6 +28,7 @@ kind_of (Amount _) = kind.Amount
 kind_of (Day _) = kind.Day
 kind_of (Mask _) = kind.Mask
 kind_of (CardKey _) = kind.CardKey
+kind_of (Barcode _) = kind.Barcode
 kind_of (Name _) = kind.Name
 
 -- A part's name and kind in the table; a command's name and parts.
@@ -70,6 +71,9 @@ commands =
     ∷ (codes "amend-title", (codes "title", kind.Number) ∷ (codes "text", kind.Name) ∷ [])
     ∷ (codes "amend-copy", (codes "copy", kind.Number) ∷ (codes "kind", kind.Number) ∷ (codes "price", kind.Amount) ∷ [])
     ∷ (codes "rehome", (codes "copy", kind.Number) ∷ (codes "branch", kind.Number) ∷ [])
+    ∷ (codes "copy-barcode", (codes "copy", kind.Number) ∷ (codes "barcode", kind.Barcode) ∷ [])
+    ∷ (codes "patron-barcode", (codes "patron", kind.Number) ∷ (codes "barcode", kind.Barcode) ∷ [])
+    ∷ (codes "drop-barcode", (codes "barcode", kind.Barcode) ∷ [])
     ∷ (codes "check-out", (codes "patron", kind.Number) ∷ (codes "copy", kind.Number) ∷ (codes "branch", kind.Number) ∷ [])
     ∷ (codes "check-in", (codes "copy", kind.Number) ∷ (codes "branch", kind.Number) ∷ [])
     ∷ (codes "renew", (codes "loan", kind.Number) ∷ [])
@@ -82,6 +86,8 @@ commands =
     ∷ (codes "withdraw", (codes "copy", kind.Number) ∷ [])
     ∷ (codes "pay", (codes "patron", kind.Number) ∷ (codes "amount", kind.Amount) ∷ [])
     ∷ (codes "waive", (codes "patron", kind.Number) ∷ (codes "amount", kind.Amount) ∷ [])
+    ∷ (codes "charge", (codes "patron", kind.Number) ∷ (codes "amount", kind.Amount) ∷ (codes "branch", kind.Number) ∷ (codes "text", kind.Name) ∷ [])
+    ∷ (codes "pay-at", (codes "patron", kind.Number) ∷ (codes "amount", kind.Amount) ∷ (codes "branch", kind.Number) ∷ [])
     ∷ (codes "page", (codes "patron", kind.Number) ∷ [])
     ∷ (codes "copy", (codes "copy", kind.Number) ∷ [])
     ∷ (codes "copies", (codes "title", kind.Number) ∷ (codes "after", kind.Number) ∷ [])
@@ -103,6 +109,8 @@ commands =
     ∷ (codes "rules", (codes "kind", kind.Number) ∷ (codes "after", kind.Number) ∷ [])
     ∷ (codes "missing-copies", (codes "after", kind.Number) ∷ [])
     ∷ (codes "loans", (codes "copy", kind.Number) ∷ (codes "after", kind.Number) ∷ [])
+    ∷ (codes "find-barcode", (codes "barcode", kind.Barcode) ∷ [])
+    ∷ (codes "till-at", (codes "branch", kind.Number) ∷ (codes "day", kind.Day) ∷ [])
     ∷ []
 
 -- The parts of the command with this name.
@@ -127,6 +135,7 @@ IsSayablePart (Amount n) = n < 2 ^ 32
 IsSayablePart (Day n) = Unit {0}
 IsSayablePart (Mask closed) = Unit {0}
 IsSayablePart (CardKey t) = Unit {0}
+IsSayablePart (Barcode t) = Unit {0}
 IsSayablePart (Name t) = Unit {0}
 
 abbrev pub AreSayable : List Part → Type 0
@@ -164,3 +173,7 @@ pub record IsNoName (word : Text) : Type 0 where
 -- The word is no card key.
 pub record IsNoCardKey (word : Text) : Type 0 where
   pub none : is_card_key word ≡ false
+
+-- The word is no barcode.
+pub record IsNoBarcode (word : Text) : Type 0 where
+  pub none : is_barcode word ≡ false

@@ -1,7 +1,7 @@
 -- The forms of texts given from outside.
 use Rattle.std.specs.Prelude.{◌≡◌, ℕ, ◌-◌, List, ◌∷◌, ◌++◌, length, slice_index, Bool, true, ◌&&◌, ◌||◌, nat_le, not, ◌==◌, IsUtf8}
 use Rattle.std.specs.List.{list_all, before_first, after_first}
-use Rattle.terms.specs.declared.limits.TheConstants.{LONGEST_NAME, SHORTEST_CARD_KEY, LONGEST_CARD_KEY, LONGEST_KEY, LONGEST_CLERK_NAME}
+use Rattle.terms.specs.declared.limits.TheConstants.{LONGEST_NAME, SHORTEST_CARD_KEY, LONGEST_CARD_KEY, LONGEST_KEY, LONGEST_CLERK_NAME, LONGEST_BARCODE}
 
 -- a byte allowed in a name: 32 or above, and not 127
 abbrev pub is_plain_byte : ℕ → Bool
@@ -40,6 +40,10 @@ has_no_space = list_all (λ b. not (b == 32))
 -- a clerk's name: 1 to 16 letters and digits
 unfoldable pub is_clerk_name : List ℕ → Bool
 is_clerk_name t = nat_le 1 (length t) && (nat_le (length t) LONGEST_CLERK_NAME && list_all is_alphanumeric t)
+
+-- a barcode: 1 to 24 letters and digits
+unfoldable pub is_barcode : List ℕ → Bool
+is_barcode t = nat_le 1 (length t) && (nat_le (length t) LONGEST_BARCODE && list_all is_alphanumeric t)
 
 -- the key of a clerk's request: the clerk's name, a slash and the key that was given
 abbrev pub clerk_key : List ℕ → List ℕ → List ℕ

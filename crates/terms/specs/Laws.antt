@@ -1,9 +1,9 @@
 -- The laws of request texts and reply texts.
 use Rattle.std.specs.Prelude.{◌≡◌, ◌<◌, ◌≤◌, ◌^◌, ℕ, true, false, Some, None, List, [], ◌∷◌, length, IsUtf8}
 use Rattle.calendar.specs.Days.{IsDayNumber}
-use Rattle.terms.specs.Forms.{IsName, is_card_key, is_clerk_name, is_outside_key, clerk_key}
+use Rattle.terms.specs.Forms.{IsName, is_card_key, is_barcode, is_clerk_name, is_outside_key, clerk_key}
 use Rattle.terms.specs.declared.limits.TheConstants.{LARGEST_SUM}
-use Rattle.terms.specs.Texts.{Part, Number, Amount, Day, Mask, CardKey, Name, said, request_text, reply_text}
+use Rattle.terms.specs.Texts.{Part, Number, Amount, Day, Mask, CardKey, Barcode, Name, said, request_text, reply_text}
 use Rattle.terms.specs.declared.command.Command.{Command}
 use Rattle.terms.specs.declared.reply.Routed.{Routed}
 use Rattle.terms.specs.declared.reply.Routed.TheVariants.{Shelf, HoldShelf, Transit}
@@ -25,6 +25,7 @@ IsPart (Amount n) = IsAmount n
 IsPart (Day n) = IsDayNumber n
 IsPart (Mask closed) = length closed ≡ 7
 IsPart (CardKey t) = is_card_key t ≡ true
+IsPart (Barcode t) = is_barcode t ≡ true
 IsPart (Name t) = IsName t
 
 abbrev pub AreParts : List Part → Type 0

@@ -2,6 +2,7 @@ pub mod Forms
 pub mod Texts
 pub mod Money
 pub mod Callers
+pub mod Things
 pub mod Laws
 pub mod Commands
 pub mod Pictures

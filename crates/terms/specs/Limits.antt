@@ -3,7 +3,7 @@ use Rattle.std.specs.Prelude.{◌≡◌, ◌≤◌, ℕ, true, false, List, leng
 use Rattle.calendar.specs.Days.{IsDayNumber}
 use Rattle.calendar.specs.Openings.{AreWeekdays, has_day, has_repeat}
 use Rattle.calendar.specs.declared.limits.TheConstants.{MOST_CLOSED_DAYS}
-use Rattle.terms.specs.Forms.{IsName, is_card_key, IsKey}
+use Rattle.terms.specs.Forms.{IsName, is_card_key, is_barcode, IsKey}
 use Rattle.terms.specs.Texts.{reply_text}
 use Rattle.terms.specs.Laws.{IsAmount, IsKept}
 use Rattle.terms.specs.Pictures.{Picture}
@@ -28,6 +28,10 @@ use Rattle.terms.specs.declared.row.HoldRow1.{HoldRow1}
 use Rattle.terms.specs.declared.row.TransitRow.{TransitRow}
 use Rattle.terms.specs.declared.row.LineRow.{LineRow}
 use Rattle.terms.specs.declared.row.KeptRow.{KeptRow}
+use Rattle.terms.specs.declared.row.Thing.{Thing}
+use Rattle.terms.specs.declared.row.Thing.TheVariants as thing
+use Rattle.terms.specs.declared.row.BarcodeRow.{BarcodeRow}
+use Rattle.terms.specs.declared.row.NoteRow.{NoteRow}
 
 -- a branch or a kind; a patron, a title or a copy; a loan, a hold or a line
 abbrev pub IsSmall : ℕ → Type 0
@@ -103,6 +107,17 @@ IsLine r = IsGiven r.line × IsLarge r.patron × IsDayNumber r.day × IsAmount r
 abbrev pub IsKeptRow : KeptRow → Type 0
 IsKeptRow r = IsOwner r.caller × IsKey r.key × IsUtf8 r.text × ((reply : Reply) × IsKept reply × (r.reply ≡ reply_text reply))
 
+-- a patron or a copy
+abbrev pub IsThing : Thing → Type 0
+IsThing (thing.Patron patron) = IsLarge patron
+IsThing (thing.Copy copy) = IsLarge copy
+
+abbrev pub IsBarcode : BarcodeRow → Type 0
+IsBarcode r = IsThing r.thing × (is_barcode r.barcode ≡ true)
+
+abbrev pub IsNote : NoteRow → Type 0
+IsNote r = IsGiven r.line × IsSmall r.branch × IfSome r.text IsName
+
 -- Each row of the tables stands under its own key and is within its limits.
 pub record InLimits (P : Picture) : Type 0 where
   pub meta : IsMeta P.meta
@@ -121,6 +136,8 @@ pub record InLimits (P : Picture) : Type 0 where
   pub transits : (c : ℕ) (r : TransitRow) → P.transits c ≡ Some r → (r.copy ≡ c) × IsTransit r
   pub lines : (n : ℕ) (r : LineRow) → P.lines n ≡ Some r → (r.line ≡ n) × IsLine r
   pub kept : (o : Owner) (k : List ℕ) (r : KeptRow) → P.kept o k ≡ Some r → (r.caller ≡ o) × (r.key ≡ k) × IsKeptRow r
+  pub barcodes : (t : Thing) (r : BarcodeRow) → P.barcodes t ≡ Some r → (r.thing ≡ t) × IsBarcode r
+  pub notes : (n : ℕ) (r : NoteRow) → P.notes n ≡ Some r → (r.line ≡ n) × IsNote r
 
 -- No branch has more single closed days than allowed.
 abbrev pub ClosesFewDays : Picture → Type 0

@@ -6,6 +6,7 @@ use Rattle.terms.specs.declared.row.LoanRow.{LoanRow}
 use Rattle.terms.specs.declared.row.LoanRow1.{LoanRow1}
 use Rattle.terms.specs.declared.row.HoldRow.{HoldRow}
 use Rattle.terms.specs.declared.row.HoldRow1.{HoldRow1}
+use Rattle.terms.specs.declared.row.Thing.{Thing}
 use Rattle.terms.specs.Pictures.{Picture}
 
 -- A hold of schema 1 in schema 2: without a first day.
@@ -43,11 +44,22 @@ carried_loan r =
       grace = 0;
     }
 
--- The tables are those of a library of schema 2, and `meta` says so.
+-- No row is in the tables that come with schema 4.
+pub record HasNoLabels (P : Picture) : Type 0 where
+  pub barcodes : (t : Thing) → P.barcodes t ≡ None
+  pub notes : (n : ℕ) → P.notes n ≡ None
+
+-- The tables are those of a library of schema 3, and `meta` says so.
+pub record IsOfSchema3 (P : Picture) : Type 0 where
+  pub names : P.meta.schema ≡ 3
+  pub later_labels : HasNoLabels P
+
+-- They are those of a library of schema 2.
 pub record IsOfSchema2 (P : Picture) : Type 0 where
   pub names : P.meta.schema ≡ 2
   pub later_rules : (k c : ℕ) → P.rules k c ≡ None
   pub later_loans : (l : ℕ) → P.loans l ≡ None
+  pub later_labels : HasNoLabels P
 
 -- They are those of a library of schema 1.
 pub record IsOfSchema1 (P : Picture) : Type 0 where
@@ -55,6 +67,7 @@ pub record IsOfSchema1 (P : Picture) : Type 0 where
   pub later : (h : ℕ) → P.holds h ≡ None
   pub later_rules : (k c : ℕ) → P.rules k c ≡ None
   pub later_loans : (l : ℕ) → P.loans l ≡ None
+  pub later_labels : HasNoLabels P
 
 -- The tables of schema 1, migrated to schema 2: each hold is carried over, and no other row is changed but
 -- that of `meta`, which names the schema.
@@ -72,16 +85,22 @@ led_to_3 P =
       loans1 = λ _. None;
     }
 
+-- The tables of schema 3, migrated to schema 4: no row is changed but that of `meta`.
+abbrev pub led_to_4 : Picture → Picture
+led_to_4 P = record P { meta = record P.meta { schema = 4 }; barcodes = λ _. None; notes = λ _. None }
+
 -- The tables are those of a library of schema n.
 abbrev pub IsOfSchema : ℕ → Picture → Type 0
 IsOfSchema (suc zero) P = IsOfSchema1 P
 IsOfSchema (suc (suc zero)) P = IsOfSchema2 P
+IsOfSchema (suc (suc (suc zero))) P = IsOfSchema3 P
 IsOfSchema n P = P.meta.schema ≡ n
 
 -- The tables of schema n, migrated by one step, and by this many.
 abbrev pub led_on : ℕ → Picture → Picture
 led_on (suc zero) P = led_to_2 P
 led_on (suc (suc zero)) P = led_to_3 P
+led_on (suc (suc (suc zero))) P = led_to_4 P
 led_on _ P = P
 
 abbrev pub led_by : ℕ → ℕ → Picture → Picture

@@ -6,6 +6,7 @@ use Rattle.calendar.specs.Days.{day_text}
 use Rattle.terms.specs.declared.command.Command.{Command}
 use Rattle.terms.specs.declared.command.Command.TheVariants.{BeginDay, Branch, Week, CloseDay, OpenDay, Kind, Rule, Grace, Patron, Acquire}
 use Rattle.terms.specs.declared.command.Command.TheVariants.{SetCardKey, AmendPatron, AmendBranch, AmendTitle, AmendCopy, Rehome}
+use Rattle.terms.specs.declared.command.Command.TheVariants.{CopyBarcode, PatronBarcode, DropBarcode, Charge, PayAt}
 use Rattle.terms.specs.declared.command.Command.TheVariants.{CheckOut, CheckIn, Renew, PlaceHold, CancelHold, Unshelve, UnshelveCancelled}
 use Rattle.terms.specs.declared.command.Command.TheVariants.{Missing, Withdraw, Pay, Waive, Page, Ask}
 use Rattle.terms.specs.declared.question.Question.{Question}
@@ -31,13 +32,15 @@ mask_text closed =
     weekday_letter closed 0 ∷ weekday_letter closed 1 ∷ weekday_letter closed 2 ∷ weekday_letter closed 3
     ∷ weekday_letter closed 4 ∷ weekday_letter closed 5 ∷ weekday_letter closed 6 ∷ []
 
--- a part of a command: a number, an amount in cents, a day, a mask of closed weekdays, a card key, a name
+-- a part of a command: a number, an amount in cents, a day, a mask of closed weekdays, a card key, a barcode, a
+-- name
 pub data Part : Type 0 where
   Number : ℕ → Part
   Amount : ℕ → Part
   Day : ℕ → Part
   Mask : List Bool → Part
   CardKey : List ℕ → Part
+  Barcode : List ℕ → Part
   Name : List ℕ → Part
 
 -- the word that writes a part
@@ -47,6 +50,7 @@ word_of (Amount n) = decimal n
 word_of (Day n) = day_text n
 word_of (Mask closed) = mask_text closed
 word_of (CardKey t) = t
+word_of (Barcode t) = t
 word_of (Name t) = t
 
 -- what a question says: its name, and its parts in order
@@ -71,6 +75,8 @@ questioned (question.Kinds after) = (codes "kinds", Number after ∷ [])
 questioned (question.Rules kind after) = (codes "rules", Number kind ∷ Number after ∷ [])
 questioned (question.MissingCopies after) = (codes "missing-copies", Number after ∷ [])
 questioned (question.Loans copy after) = (codes "loans", Number copy ∷ Number after ∷ [])
+questioned (question.FindBarcode barcode) = (codes "find-barcode", Barcode barcode ∷ [])
+questioned (question.TillAt branch day) = (codes "till-at", Number branch ∷ Day day ∷ [])
 
 -- what a command says: its name, and its parts in order
 abbrev pub said : Command → List ℕ × List Part
@@ -91,6 +97,9 @@ said (AmendBranch branch pickup name) = (codes "amend-branch", Number branch ∷
 said (AmendTitle title text) = (codes "amend-title", Number title ∷ Name text ∷ [])
 said (AmendCopy copy kind price) = (codes "amend-copy", Number copy ∷ Number kind ∷ Amount price ∷ [])
 said (Rehome copy branch) = (codes "rehome", Number copy ∷ Number branch ∷ [])
+said (CopyBarcode copy barcode) = (codes "copy-barcode", Number copy ∷ Barcode barcode ∷ [])
+said (PatronBarcode patron barcode) = (codes "patron-barcode", Number patron ∷ Barcode barcode ∷ [])
+said (DropBarcode barcode) = (codes "drop-barcode", Barcode barcode ∷ [])
 said (CheckOut patron copy branch) = (codes "check-out", Number patron ∷ Number copy ∷ Number branch ∷ [])
 said (CheckIn copy branch) = (codes "check-in", Number copy ∷ Number branch ∷ [])
 said (Renew loan) = (codes "renew", Number loan ∷ [])
@@ -103,6 +112,8 @@ said (Missing copy) = (codes "missing", Number copy ∷ [])
 said (Withdraw copy) = (codes "withdraw", Number copy ∷ [])
 said (Pay patron amount) = (codes "pay", Number patron ∷ Amount amount ∷ [])
 said (Waive patron amount) = (codes "waive", Number patron ∷ Amount amount ∷ [])
+said (Charge patron amount branch text) = (codes "charge", Number patron ∷ Amount amount ∷ Number branch ∷ Name text ∷ [])
+said (PayAt patron amount branch) = (codes "pay-at", Number patron ∷ Amount amount ∷ Number branch ∷ [])
 said (Page patron) = (codes "page", Number patron ∷ [])
 said (Ask question) = questioned question
 
@@ -132,12 +143,14 @@ refusal_number refusal.UnknownLoan = 14
 refusal_number refusal.UnknownHold = 15
 refusal_number refusal.NoRule = 16
 refusal_number refusal.UnknownKind = 17
+refusal_number refusal.UnknownBarcode = 18
 refusal_number refusal.OtherContent = 20
 refusal_number refusal.OutOfLimits = 21
 refusal_number refusal.AllWeekdaysClosed = 22
 refusal_number refusal.BadDay = 23
 refusal_number refusal.AlreadyClosed = 24
 refusal_number refusal.NotClosed = 25
+refusal_number refusal.BarcodeTaken = 26
 refusal_number refusal.Elsewhere = 30
 refusal_number refusal.OnLoan = 31
 refusal_number refusal.InTransit = 32

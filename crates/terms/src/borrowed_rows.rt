@@ -3,11 +3,15 @@
 ghost use Rattle.terms.specs.declared.row.BranchRow.{BranchRow};
 ghost use Rattle.terms.specs.declared.row.PatronRow.{PatronRow};
 ghost use Rattle.terms.specs.declared.row.TitleRow.{TitleRow};
+ghost use Rattle.std.specs.Prelude.{option_map};
 ghost use Rattle.terms.specs.declared.row.KeptRow.{KeptRow};
+ghost use Rattle.terms.specs.declared.row.BarcodeRow.{BarcodeRow};
+ghost use Rattle.terms.specs.declared.row.NoteRow.{NoteRow};
 
 use crate::command::Owner;
-use crate::number::{BranchId, Cents, Days, PatronId, PatronKind, TitleId};
-use crate::text::{CardKey, Key, Name, Text};
+use crate::number::{BranchId, Cents, Days, LineId, PatronId, PatronKind, TitleId};
+use crate::row::Thing;
+use crate::text::{Barcode, CardKey, Key, Name, Text};
 use calendar::Weekdays;
 use std::marker::Model;
 
@@ -83,5 +87,36 @@ impl<'a> Model for KeptPut<'a> {
       key = r.key.now;
       text = r.text.now;
       reply = r.reply.now;
+    } };
+}
+
+/// A row of `barcodes`.
+#[derive(Drop)]
+pub struct BarcodePut<'a> {
+    pub thing: Thing,
+    pub barcode: &'a Barcode,
+}
+
+impl<'a> Model for BarcodePut<'a> {
+    ghost Value = { BarcodeRow };
+
+    ghost view = { λ r. record { thing = r.thing; barcode = r.barcode.now } };
+}
+
+/// A row of `notes`.
+#[derive(Drop)]
+pub struct NotePut<'a> {
+    pub line: LineId,
+    pub branch: BranchId,
+    pub text: Option<&'a Name>,
+}
+
+impl<'a> Model for NotePut<'a> {
+    ghost Value = { NoteRow };
+
+    ghost view = { λ r. record {
+      line = r.line;
+      branch = r.branch;
+      text = option_map (λ t. t.now) r.text;
     } };
 }

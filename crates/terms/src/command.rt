@@ -8,7 +8,7 @@ use crate::number::{
     BranchId, Cents, CopyId, CopyKind, Count, Days, HoldId, LoanId, PatronId, PatronKind, TitleId,
 };
 use crate::question::{Question, joined_question};
-use crate::text::{CardKey, Key, Name, Text};
+use crate::text::{Barcode, CardKey, Key, Name, Text};
 use crate::week::Mask;
 use calendar::{Day, Memory};
 use std::alloc::Global;
@@ -114,6 +114,20 @@ pub enum Command {
         copy: CopyId,
         branch: BranchId,
     },
+    /// Gives a copy this barcode, in the place of the one that it had.
+    CopyBarcode {
+        copy: CopyId,
+        barcode: Barcode,
+    },
+    /// Gives a patron this barcode, in the place of the one that the patron had.
+    PatronBarcode {
+        patron: PatronId,
+        barcode: Barcode,
+    },
+    /// Takes a barcode from the copy or the patron that has it.
+    DropBarcode {
+        barcode: Barcode,
+    },
     /// Lends a copy to a patron at a branch.
     CheckOut {
         patron: PatronId,
@@ -166,6 +180,19 @@ pub enum Command {
     Waive {
         patron: PatronId,
         amount: Cents,
+    },
+    /// Charges a patron an amount at a branch, for what the text says.
+    Charge {
+        patron: PatronId,
+        amount: Cents,
+        branch: BranchId,
+        text: Name,
+    },
+    /// Takes a patron's payment at a branch.
+    PayAt {
+        patron: PatronId,
+        amount: Cents,
+        branch: BranchId,
     },
     /// Shows what a patron owes, has on loan and holds. Changes nothing.
     Page {
@@ -273,6 +300,13 @@ pub(crate) fn joined_words(alloc: Global, command: &Command) -> Result<String, M
             format!(in alloc; "amend-copy {copy} {kind} {price}")
         }
         Command::Rehome { copy, branch } => format!(in alloc; "rehome {copy} {branch}"),
+        Command::CopyBarcode { copy, barcode } => {
+            format!(in alloc; "copy-barcode {copy} {barcode}")
+        }
+        Command::PatronBarcode { patron, barcode } => {
+            format!(in alloc; "patron-barcode {patron} {barcode}")
+        }
+        Command::DropBarcode { barcode } => format!(in alloc; "drop-barcode {barcode}"),
         Command::CheckOut {
             patron,
             copy,
@@ -299,6 +333,17 @@ pub(crate) fn joined_words(alloc: Global, command: &Command) -> Result<String, M
         Command::Withdraw { copy } => format!(in alloc; "withdraw {copy}"),
         Command::Pay { patron, amount } => format!(in alloc; "pay {patron} {amount}"),
         Command::Waive { patron, amount } => format!(in alloc; "waive {patron} {amount}"),
+        Command::Charge {
+            patron,
+            amount,
+            branch,
+            text,
+        } => format!(in alloc; "charge {patron} {amount} {branch} {text}"),
+        Command::PayAt {
+            patron,
+            amount,
+            branch,
+        } => format!(in alloc; "pay-at {patron} {amount} {branch}"),
         Command::Page { patron } => format!(in alloc; "page {patron}"),
         Command::Ask(question) => joined_question(alloc, question),
     }

@@ -16,6 +16,8 @@ pub enum PartKind {
     Mask,
     /// A card key.
     CardKey,
+    /// A barcode.
+    Barcode,
     /// A name, or the text of a title.
     Name,
 }
@@ -117,6 +119,11 @@ const PATRON: PartForm = PartForm {
 const CARD_KEY: PartForm = PartForm {
     name: "card-key",
     kind: PartKind::CardKey,
+};
+
+const BARCODE: PartForm = PartForm {
+    name: "barcode",
+    kind: PartKind::Barcode,
 };
 
 const COPY: PartForm = PartForm {
@@ -231,6 +238,18 @@ const COMMANDS: &[CommandForm] = &[
         parts: &[COPY, BRANCH],
     },
     CommandForm {
+        name: "copy-barcode",
+        parts: &[COPY, BARCODE],
+    },
+    CommandForm {
+        name: "patron-barcode",
+        parts: &[PATRON, BARCODE],
+    },
+    CommandForm {
+        name: "drop-barcode",
+        parts: &[BARCODE],
+    },
+    CommandForm {
         name: "check-out",
         parts: &[PATRON, COPY, BRANCH],
     },
@@ -277,6 +296,14 @@ const COMMANDS: &[CommandForm] = &[
     CommandForm {
         name: "waive",
         parts: &[PATRON, AMOUNT],
+    },
+    CommandForm {
+        name: "charge",
+        parts: &[PATRON, AMOUNT, BRANCH, TEXT],
+    },
+    CommandForm {
+        name: "pay-at",
+        parts: &[PATRON, AMOUNT, BRANCH],
     },
     CommandForm {
         name: "page",
@@ -361,6 +388,14 @@ const COMMANDS: &[CommandForm] = &[
     CommandForm {
         name: "loans",
         parts: &[COPY, AFTER],
+    },
+    CommandForm {
+        name: "find-barcode",
+        parts: &[BARCODE],
+    },
+    CommandForm {
+        name: "till-at",
+        parts: &[BRANCH, DAY],
     },
 ];
 

@@ -116,6 +116,13 @@ fn question_has_forms(question: &Question)
             let _copy = copy.number();
             let _after = after.number();
         }
+        Question::FindBarcode { barcode } => {
+            let _barcode = barcode.as_str();
+        }
+        Question::TillAt { branch, day } => {
+            let _branch = branch.number();
+            let _day = day.number();
+        }
     }
 }
 
@@ -240,6 +247,17 @@ pub fn command_has_forms(command: &Command)
             let _copy = copy.number();
             let _branch = branch.number();
         }
+        Command::CopyBarcode { copy, barcode } => {
+            let _copy = copy.number();
+            let _barcode = barcode.as_str();
+        }
+        Command::PatronBarcode { patron, barcode } => {
+            let _patron = patron.number();
+            let _barcode = barcode.as_str();
+        }
+        Command::DropBarcode { barcode } => {
+            let _barcode = barcode.as_str();
+        }
         Command::CheckOut {
             patron,
             copy,
@@ -291,6 +309,26 @@ pub fn command_has_forms(command: &Command)
         Command::Waive { patron, amount } => {
             let _patron = patron.number();
             let _amount = amount.number();
+        }
+        Command::Charge {
+            patron,
+            amount,
+            branch,
+            text,
+        } => {
+            let _patron = patron.number();
+            let _amount = amount.number();
+            let _branch = branch.number();
+            let _text = text.as_str();
+        }
+        Command::PayAt {
+            patron,
+            amount,
+            branch,
+        } => {
+            let _patron = patron.number();
+            let _amount = amount.number();
+            let _branch = branch.number();
         }
         Command::Page { patron } => {
             let _patron = patron.number();

@@ -1,7 +1,7 @@
 //! Limits of numbers, amounts and texts, with one name each for code and definitions.
 
 /// The newest schema of a library, which new tables have.
-pub const SCHEMA: u32 = 3;
+pub const SCHEMA: u32 = 4;
 
 /// The greatest number of a branch, a kind of patron or a kind of copy. The least is 1, as for all
 /// numbers below.
@@ -52,6 +52,9 @@ pub const HIGHEST_PRICE: u64 = 1_000_000;
 /// The most that a kind of patron may owe at check-out, in cents.
 pub const HIGHEST_DEBT: u64 = 1_000_000;
 
+/// The highest single charge, in cents.
+pub const HIGHEST_CHARGE: u64 = 1_000_000;
+
 /// The largest amount of money, and the largest sum of amounts, in cents: 2^52 - 1.
 pub const LARGEST_SUM: u64 = 4_503_599_627_370_495;
 
@@ -69,3 +72,6 @@ pub const LONGEST_KEY: usize = 40;
 
 /// The length of the longest clerk's name.
 pub const LONGEST_CLERK_NAME: usize = 16;
+
+/// The length of the longest barcode.
+pub const LONGEST_BARCODE: usize = 24;

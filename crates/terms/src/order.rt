@@ -4,11 +4,12 @@ ghost use Rattle.std.specs.Prelude.{◌≡◌, ◌↔◌, ◌<◌, IsTrue};
 ghost use Rattle.terms.specs.Callers.{owner_number};
 ghost use Rattle.terms.specs.Orders.{IsPairBefore, IsKeptBefore};
 ghost use Rattle.terms.specs.Orders.{rise-on, pair-on, kept-on};
+ghost use Rattle.terms.specs.Things.{thing_sort, thing_number};
 
 use crate::command::Owner;
 use crate::row::{
-    BranchRow, ClosedDayRow, CopyRow, HoldRow, HoldRow1, KeptRow, KindRow, LineRow, LoanRow,
-    LoanRow1, PatronRow, RuleRow, TitleRow, TransitRow,
+    BarcodeRow, BranchRow, ClosedDayRow, CopyRow, HoldRow, HoldRow1, KeptRow, KindRow, LineRow,
+    LoanRow, LoanRow1, NoteRow, PatronRow, RuleRow, TitleRow, TransitRow,
 };
 
 /// Rows of a table, ordered by key.
@@ -206,4 +207,32 @@ impl Ordered for KeptRow {
     }
 
     ghost goes_on = { kept-on };
+}
+
+/// Barcodes are ordered by the sort of their thing, then by its number.
+impl Ordered for BarcodeRow {
+    ghost comes_before = { λ r s. IsPairBefore (thing_sort r.thing, thing_number r.thing)
+        (thing_sort s.thing, thing_number s.thing) };
+
+    fn comes_before(&self, other: &BarcodeRow) -> bool {
+        is_pair_before(
+            self.thing.sort_number(),
+            self.thing.number(),
+            other.thing.sort_number(),
+            other.thing.number(),
+        )
+    }
+
+    ghost goes_on = { pair-on (λ r. (thing_sort r.thing, thing_number r.thing)) };
+}
+
+/// Notes are ordered by line.
+impl Ordered for NoteRow {
+    ghost comes_before = { λ r s. r.line < s.line };
+
+    fn comes_before(&self, other: &NoteRow) -> bool {
+        self.line.number() < other.line.number()
+    }
+
+    ghost goes_on = { rise-on (λ r. r.line) };
 }

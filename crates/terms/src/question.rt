@@ -7,7 +7,7 @@ ghost use Rattle.terms.specs.declared.command.Command.TheVariants.{Ask};
 use crate::number::{
     BranchId, CopyId, CopyKind, DayNumber, HoldId, LineId, LoanId, PatronId, PatronKind, TitleId,
 };
-use crate::text::Name;
+use crate::text::{Barcode, Name};
 use calendar::{Day, Memory};
 use std::alloc::Global;
 
@@ -54,6 +54,10 @@ pub enum Question {
     MissingCopies { after: CopyId },
     /// The loans ever made of a copy.
     Loans { copy: CopyId, after: LoanId },
+    /// The copy or the patron that has a barcode.
+    FindBarcode { barcode: Barcode },
+    /// The sums of a day at a branch.
+    TillAt { branch: BranchId, day: Day },
 }
 
 /// Joins the words of a question with single spaces.
@@ -82,5 +86,7 @@ pub(crate) fn joined_question(alloc: Global, question: &Question) -> Result<Stri
         Question::Rules { kind, after } => format!(in alloc; "rules {kind} {after}"),
         Question::MissingCopies { after } => format!(in alloc; "missing-copies {after}"),
         Question::Loans { copy, after } => format!(in alloc; "loans {copy} {after}"),
+        Question::FindBarcode { barcode } => format!(in alloc; "find-barcode {barcode}"),
+        Question::TillAt { branch, day } => format!(in alloc; "till-at {branch} {day}"),
     }
 }

@@ -9,7 +9,7 @@ use crate::number::{
     BranchId, CopyId, CopyKind, DayNumber, HoldId, LineId, LoanId, PatronId, PatronKind, TitleId,
 };
 use crate::question::Question;
-use crate::words::{WordFault, number, read_day, read_name};
+use crate::words::{WordFault, number, read_barcode, read_day, read_name};
 use std::alloc::Global;
 
 #[tactic(auto, unfolding(crate::specs::Texts::command_words))]
@@ -261,4 +261,29 @@ pub(crate) fn loans(values: &[&str]) -> Result<Command, WordFault>
     let copy = CopyId::new(number(copy)?);
     let after = LoanId::new(number(after)?);
     Ok(Command::Ask(Question::Loans { copy, after }))
+}
+
+#[tactic(auto, unfolding(crate::specs::Texts::command_words))]
+pub(crate) fn find_barcode(alloc: Global, values: &[&str]) -> Result<Command, WordFault>
+    ensures read { IfOk result (IsReadAs (codes "find-barcode") (texts values.now)) }
+    ensures refused { result ≡ Err Refused → IsNoCommand (codes "find-barcode") (texts values.now) }
+{
+    let [barcode] = values else {
+        return Err(WordFault::NotUnderstood);
+    };
+    let barcode = read_barcode(alloc, barcode)?;
+    Ok(Command::Ask(Question::FindBarcode { barcode }))
+}
+
+#[tactic(auto, unfolding(crate::specs::Texts::command_words))]
+pub(crate) fn till_at(values: &[&str]) -> Result<Command, WordFault>
+    ensures read { IfOk result (IsReadAs (codes "till-at") (texts values.now)) }
+    ensures refused { result ≡ Err Refused → IsNoCommand (codes "till-at") (texts values.now) }
+{
+    let [branch, day] = values else {
+        return Err(WordFault::NotUnderstood);
+    };
+    let branch = BranchId::new(number(branch)?);
+    let day = read_day(day)?;
+    Ok(Command::Ask(Question::TillAt { branch, day }))
 }

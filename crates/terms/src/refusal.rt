@@ -24,6 +24,8 @@ pub enum Refusal {
     NoRule,
     /// 17: there is no such patron kind.
     UnknownKind,
+    /// 18: nothing has this barcode.
+    UnknownBarcode,
     /// 20: it exists with other content.
     OtherContent,
     /// 21: a value is out of its limits.
@@ -36,6 +38,8 @@ pub enum Refusal {
     AlreadyClosed,
     /// 25: the day is not closed singly.
     NotClosed,
+    /// 26: another copy or patron has this barcode.
+    BarcodeTaken,
     /// 30: the copy is at another branch.
     Elsewhere,
     /// 31: the copy is on loan.
@@ -97,12 +101,14 @@ impl Refusal {
             Refusal::UnknownHold => 15,
             Refusal::NoRule => 16,
             Refusal::UnknownKind => 17,
+            Refusal::UnknownBarcode => 18,
             Refusal::OtherContent => 20,
             Refusal::OutOfLimits => 21,
             Refusal::AllWeekdaysClosed => 22,
             Refusal::BadDay => 23,
             Refusal::AlreadyClosed => 24,
             Refusal::NotClosed => 25,
+            Refusal::BarcodeTaken => 26,
             Refusal::Elsewhere => 30,
             Refusal::OnLoan => 31,
             Refusal::InTransit => 32,

@@ -1,11 +1,14 @@
 //! The rows of the tables, as read.
 
+ghost use Rattle.std.specs.Prelude.{◌≡◌};
+ghost use Rattle.terms.specs.Things.{thing_sort, thing_number};
+
 use crate::command::Owner;
 use crate::number::{
     BranchId, Cents, CopyId, CopyKind, Count, Days, HoldId, LineId, LoanId, PatronId, PatronKind,
     TitleId,
 };
-use crate::text::{CardKey, Key, Name, Text};
+use crate::text::{Barcode, CardKey, Key, Name, Text};
 use calendar::{Day, Weekdays};
 
 /// The one row of `meta`: the schema, today, and the next numbers.
@@ -179,13 +182,14 @@ pub struct TransitRow {
     pub hold: Option<HoldId>,
 }
 
-/// The sort of a line: 0 fine, 1 price, 2 payment, 3 waiver.
+/// The sort of a line: 0 fine, 1 price, 2 payment, 3 waiver, 4 charge.
 #[derive(Clone, Copy, Debug, PartialEq, Eq)]
 pub enum Sort {
     Fine,
     Price,
     Payment,
     Waiver,
+    Charge,
 }
 
 /// A row of `lines`: one line of a patron's account. Fines and prices name their loan.
@@ -206,4 +210,49 @@ pub struct KeptRow {
     pub key: Key,
     pub text: Text,
     pub reply: Text,
+}
+
+/// What a barcode is of. Patrons are of sort 0, copies of sort 1.
+#[derive(Clone, Copy, Debug, PartialEq, Eq)]
+pub enum Thing {
+    Patron(PatronId),
+    Copy(CopyId),
+}
+
+impl Thing {
+    /// Returns the number of the thing's sort: 0 for a patron, 1 for a copy.
+    pub fn sort_number(self) -> u32
+        ensures { result ≡ thing_sort self }
+    {
+        match self {
+            Thing::Patron(_) => 0,
+            Thing::Copy(_) => 1,
+        }
+    }
+
+    /// Returns the number of the patron or the copy.
+    pub fn number(self) -> u32
+        ensures { result ≡ thing_number self }
+    {
+        match self {
+            Thing::Patron(patron) => patron.number(),
+            Thing::Copy(copy) => copy.number(),
+        }
+    }
+}
+
+/// A row of `barcodes`: the barcode of a patron or a copy.
+#[derive(Drop)]
+pub struct BarcodeRow {
+    pub thing: Thing,
+    pub barcode: Barcode,
+}
+
+/// A row of `notes`: where a charge, or a payment at a counter, was made. A charge alone has a text,
+/// what it is for.
+#[derive(Drop)]
+pub struct NoteRow {
+    pub line: LineId,
+    pub branch: BranchId,
+    pub text: Option<Name>,
 }

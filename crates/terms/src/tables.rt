@@ -6,8 +6,8 @@ ghost use Rattle.terms.specs.Orders.{IsOrdered};
 use crate::fault::Fault;
 use crate::order::Ordered;
 use crate::row::{
-    BranchRow, ClosedDayRow, CopyRow, HoldRow, KeptRow, KindRow, LineRow, LoanRow, MetaRow,
-    PatronRow, RuleRow, TitleRow, TransitRow,
+    BarcodeRow, BranchRow, ClosedDayRow, CopyRow, HoldRow, KeptRow, KindRow, LineRow, LoanRow,
+    MetaRow, NoteRow, PatronRow, RuleRow, TitleRow, TransitRow,
 };
 use std::alloc::Global;
 use std::marker::Model;
@@ -74,7 +74,7 @@ impl<T: Ordered> Rows<T> {
     }
 }
 
-/// Rows of each of the thirteen tables: all of them, or those asked for, as the reading call says.
+/// Rows of each of the fifteen tables: all of them, or those asked for, as the reading call says.
 #[derive(Drop)]
 pub struct Tables {
     pub meta: MetaRow,
@@ -90,4 +90,6 @@ pub struct Tables {
     pub transits: Rows<TransitRow>,
     pub lines: Rows<LineRow>,
     pub kept: Rows<KeptRow>,
+    pub barcodes: Rows<BarcodeRow>,
+    pub notes: Rows<NoteRow>,
 }

@@ -5,12 +5,13 @@ ghost use Rattle.std.specs.Prelude.{bytes_eq, IsUtf8};
 ghost use Rattle.std.specs.List.{list_all};
 ghost use Rattle.terms.specs.Forms.{is_name, IsName, is_plain_byte, is_card_key, is_alphanumeric};
 ghost use Rattle.terms.specs.Forms.{is_outside_key, is_key_byte, has_no_space, is_key, IsKey};
-ghost use Rattle.terms.specs.Forms.{is_clerk_name, is_clerk_key, clerk_key};
+ghost use Rattle.terms.specs.Forms.{is_clerk_name, is_clerk_key, clerk_key, is_barcode};
 ghost use Rattle.terms.specs.Texts.{request_text};
 
 use crate::command::{Command, joined_words};
 use crate::limits::{
-    LONGEST_CARD_KEY, LONGEST_CLERK_NAME, LONGEST_KEY, LONGEST_NAME, SHORTEST_CARD_KEY,
+    LONGEST_BARCODE, LONGEST_CARD_KEY, LONGEST_CLERK_NAME, LONGEST_KEY, LONGEST_NAME,
+    SHORTEST_CARD_KEY,
 };
 use calendar::Memory;
 use std::alloc::Global;
@@ -251,6 +252,81 @@ impl ClerkName {
     {
         let ClerkName { text } = other;
         self.text == *text
+    }
+}
+
+/// A barcode, as labels and cards have it: 1 to 24 ASCII letters and digits. Case and leading zeros
+/// count.
+#[derive(Drop)]
+pub struct Barcode {
+    text: String,
+}
+
+impl Model for Barcode {
+    ghost use Rattle.std.specs.Prelude.{◌≡◌, ℕ, List, true, string_bytes};
+    ghost use Rattle.terms.specs.Forms.{is_barcode};
+
+    ghost Value = { List ℕ };
+
+    ghost view = { λ a. string_bytes a.text };
+
+    ghost invariant = { λ a. is_barcode (string_bytes a.text) ≡ true };
+}
+
+#[tactic(auto, unfolding(crate::specs::Forms::is_barcode))]
+fn has_barcode_form(text: &str) -> bool
+    ensures { result ≡ is_barcode text.now }
+{
+    let bytes = text.as_bytes();
+    let len = bytes.len();
+    if len < 1 {
+        return false;
+    }
+    if len > LONGEST_BARCODE {
+        return false;
+    }
+    all_alphanumeric(bytes)
+}
+
+impl Barcode {
+    /// Reads a barcode, if the text is well-formed.
+    pub fn new(alloc: Global, text: &str) -> Result<Option<Barcode>, Memory>
+        ensures { IfOk result (λ o. MatchOption o (is_barcode text.now ≡ false)
+            (λ b. (is_barcode text.now ≡ true) × (b ≡ text.now))) }
+    {
+        if has_barcode_form(text) {
+            let text = String::from_str(alloc, text)?;
+            Ok(Some(Barcode { text }))
+        } else {
+            Ok(None)
+        }
+    }
+
+    /// Returns the text.
+    pub fn as_str(&self) -> &str
+        ensures value { result.now ≡ self.now }
+        ensures form { is_barcode result.now ≡ true }
+    {
+        let Barcode { text } = self;
+        text.as_str()
+    }
+
+    /// Compares two barcodes.
+    pub fn is_same(&self, other: &Barcode) -> bool
+        ensures { result ≡ bytes_eq self.now other.now }
+    {
+        let Barcode { text } = other;
+        self.text == *text
+    }
+}
+
+impl fmt::Display for Barcode {
+    ghost use Rattle.std.specs.Prelude.{Some};
+
+    ghost output = { λ x. Some x };
+
+    fn fmt<W: fmt::Write>(&self, f: &mut fmt::Formatter<W>) -> fmt::Result {
+        f.write_str(self.text.as_str())
     }
 }
 

@@ -3,10 +3,10 @@
 ghost use Rattle.std.specs.Prelude.{◌≡◌, ◌<◌, ◌^◌, codes, length, true, IfOk};
 ghost use Rattle.std.specs.Fmt.{decimal};
 ghost use Rattle.calendar.specs.Days.{IsDayNumber, day_text};
-ghost use Rattle.terms.specs.Forms.{IsName, is_card_key};
+ghost use Rattle.terms.specs.Forms.{IsName, is_card_key, is_barcode};
 ghost use Rattle.terms.specs.Texts.{mask_text};
 ghost use Rattle.terms.specs.Commands.{IsReadAs, IsNoCommand, IsNoNumber, IsNoDay, IsNoMask};
-ghost use Rattle.terms.specs.Commands.{IsNoName, IsNoCardKey, texts};
+ghost use Rattle.terms.specs.Commands.{IsNoName, IsNoCardKey, IsNoBarcode, texts};
 ghost use Rattle.terms.specs.declared.words.WordFault.TheVariants.{Memory as NoMemory};
 ghost use Rattle.terms.specs.declared.words.WordFault.TheVariants.{NotUnderstood as Refused};
 
@@ -15,11 +15,12 @@ use crate::number::{
     BranchId, Cents, CopyId, CopyKind, Count, Days, HoldId, LoanId, PatronId, PatronKind, TitleId,
 };
 use crate::question_words::{
-    account, borrower, branches, closed_days, copies, copy, debts, find_patrons, find_titles,
-    kinds, loans, missing_copies, overdue, pulls, queue, rules, shelf, till, today, transits,
+    account, borrower, branches, closed_days, copies, copy, debts, find_barcode, find_patrons,
+    find_titles, kinds, loans, missing_copies, overdue, pulls, queue, rules, shelf, till, till_at,
+    today, transits,
 };
 use crate::reading::read_number;
-use crate::text::{CardKey, Name};
+use crate::text::{Barcode, CardKey, Name};
 use crate::week::Mask;
 use calendar::Day;
 use std::alloc::{AllocError, Global};
@@ -84,6 +85,15 @@ fn read_card_key(alloc: Global, word: &str) -> Result<CardKey, WordFault>
 {
     let key = CardKey::new(alloc, word)?;
     key.ok_or(WordFault::NotUnderstood)
+}
+
+/// Reads a barcode.
+pub(crate) fn read_barcode(alloc: Global, word: &str) -> Result<Barcode, WordFault>
+    ensures read { IfOk result (λ barcode. (is_barcode barcode ≡ true) × (word.now ≡ barcode)) }
+    ensures refused { result ≡ Err Refused → IsNoBarcode word.now }
+{
+    let barcode = Barcode::new(alloc, word)?;
+    barcode.ok_or(WordFault::NotUnderstood)
 }
 
 /// Reads an amount, below 2^32 cents like every number.
@@ -355,6 +365,45 @@ fn rehome(values: &[&str]) -> Result<Command, WordFault>
 }
 
 #[tactic(auto, unfolding(crate::specs::Texts::command_words))]
+fn copy_barcode(alloc: Global, values: &[&str]) -> Result<Command, WordFault>
+    ensures read { IfOk result (IsReadAs (codes "copy-barcode") (texts values.now)) }
+    ensures refused { result ≡ Err Refused → IsNoCommand (codes "copy-barcode") (texts values.now) }
+{
+    let [copy, barcode] = values else {
+        return Err(WordFault::NotUnderstood);
+    };
+    let copy = CopyId::new(number(copy)?);
+    let barcode = read_barcode(alloc, barcode)?;
+    Ok(Command::CopyBarcode { copy, barcode })
+}
+
+#[tactic(auto, unfolding(crate::specs::Texts::command_words))]
+fn patron_barcode(alloc: Global, values: &[&str]) -> Result<Command, WordFault>
+    ensures read { IfOk result (IsReadAs (codes "patron-barcode") (texts values.now)) }
+    ensures refused { result ≡ Err Refused
+        → IsNoCommand (codes "patron-barcode") (texts values.now) }
+{
+    let [patron, barcode] = values else {
+        return Err(WordFault::NotUnderstood);
+    };
+    let patron = PatronId::new(number(patron)?);
+    let barcode = read_barcode(alloc, barcode)?;
+    Ok(Command::PatronBarcode { patron, barcode })
+}
+
+#[tactic(auto, unfolding(crate::specs::Texts::command_words))]
+fn drop_barcode(alloc: Global, values: &[&str]) -> Result<Command, WordFault>
+    ensures read { IfOk result (IsReadAs (codes "drop-barcode") (texts values.now)) }
+    ensures refused { result ≡ Err Refused → IsNoCommand (codes "drop-barcode") (texts values.now) }
+{
+    let [barcode] = values else {
+        return Err(WordFault::NotUnderstood);
+    };
+    let barcode = read_barcode(alloc, barcode)?;
+    Ok(Command::DropBarcode { barcode })
+}
+
+#[tactic(auto, unfolding(crate::specs::Texts::command_words))]
 fn check_out(values: &[&str]) -> Result<Command, WordFault>
     ensures read { IfOk result (IsReadAs (codes "check-out") (texts values.now)) }
     ensures refused { result ≡ Err Refused → IsNoCommand (codes "check-out") (texts values.now) }
@@ -525,6 +574,44 @@ fn waive(values: &[&str]) -> Result<Command, WordFault>
 }
 
 #[tactic(auto, unfolding(crate::specs::Texts::command_words))]
+fn charge(alloc: Global, values: &[&str]) -> Result<Command, WordFault>
+    ensures read { IfOk result (IsReadAs (codes "charge") (texts values.now)) }
+    ensures refused { result ≡ Err Refused → IsNoCommand (codes "charge") (texts values.now) }
+{
+    let [patron, amount, branch, text] = values else {
+        return Err(WordFault::NotUnderstood);
+    };
+    let patron = PatronId::new(number(patron)?);
+    let amount = read_amount(amount)?;
+    let branch = BranchId::new(number(branch)?);
+    let text = read_name(alloc, text)?;
+    Ok(Command::Charge {
+        patron,
+        amount,
+        branch,
+        text,
+    })
+}
+
+#[tactic(auto, unfolding(crate::specs::Texts::command_words))]
+fn pay_at(values: &[&str]) -> Result<Command, WordFault>
+    ensures read { IfOk result (IsReadAs (codes "pay-at") (texts values.now)) }
+    ensures refused { result ≡ Err Refused → IsNoCommand (codes "pay-at") (texts values.now) }
+{
+    let [patron, amount, branch] = values else {
+        return Err(WordFault::NotUnderstood);
+    };
+    let patron = PatronId::new(number(patron)?);
+    let amount = read_amount(amount)?;
+    let branch = BranchId::new(number(branch)?);
+    Ok(Command::PayAt {
+        patron,
+        amount,
+        branch,
+    })
+}
+
+#[tactic(auto, unfolding(crate::specs::Texts::command_words))]
 fn page(values: &[&str]) -> Result<Command, WordFault>
     ensures read { IfOk result (IsReadAs (codes "page") (texts values.now)) }
     ensures refused { result ≡ Err Refused → IsNoCommand (codes "page") (texts values.now) }
@@ -560,6 +647,9 @@ pub fn read_command(alloc: Global, name: &str, values: &[&str]) -> Result<Comman
         "amend-title" => amend_title(alloc, values),
         "amend-copy" => amend_copy(values),
         "rehome" => rehome(values),
+        "copy-barcode" => copy_barcode(alloc, values),
+        "patron-barcode" => patron_barcode(alloc, values),
+        "drop-barcode" => drop_barcode(alloc, values),
         "check-out" => check_out(values),
         "check-in" => check_in(values),
         "renew" => renew(values),
@@ -572,6 +662,8 @@ pub fn read_command(alloc: Global, name: &str, values: &[&str]) -> Result<Comman
         "withdraw" => withdraw(values),
         "pay" => pay(values),
         "waive" => waive(values),
+        "charge" => charge(alloc, values),
+        "pay-at" => pay_at(values),
         "page" => page(values),
         "copy" => copy(values),
         "copies" => copies(values),
@@ -593,6 +685,8 @@ pub fn read_command(alloc: Global, name: &str, values: &[&str]) -> Result<Comman
         "rules" => rules(values),
         "missing-copies" => missing_copies(values),
         "loans" => loans(values),
+        "find-barcode" => find_barcode(alloc, values),
+        "till-at" => till_at(values),
         _ => Err(WordFault::NotUnderstood),
     }
 }
