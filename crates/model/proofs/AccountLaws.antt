@@ -6,7 +6,7 @@ use Rattle.std.proofs.lemmas.Bool.{eqb-true}
 use Rattle.std.proofs.lemmas.List.Elements.{filter-append}
 use Rattle.terms.specs.declared.command.Owner.{Owner}
 use Rattle.terms.specs.declared.row.Sort.{Sort}
-use Rattle.terms.specs.declared.row.Sort.TheVariants.{Fine, Price}
+use Rattle.terms.specs.declared.row.Sort.TheVariants.{Fine, Price, Charge as ChargeSort}
 use Rattle.terms.specs.declared.command.Command.{Command}
 use Rattle.terms.specs.declared.command.Command.TheVariants.{SetCardKey, AmendPatron}
 use Rattle.terms.specs.declared.command.Command.TheVariants.{Patron, CheckOut}
@@ -14,12 +14,12 @@ use Rattle.terms.specs.declared.refusal.Refusal.TheVariants as check
 use Rattle.model.specs.History.{History, today, patron_of, patron_after, next_loan}
 use Rattle.model.specs.Places.{Place, Loan, place}
 use Rattle.model.specs.Loans.{LoanFacts, loan_of, loan_after, ended, grace_of, terms_for, no_terms}
-use Rattle.model.specs.Accounts.{Line, Posting, Returned, Lost, Settled, NoPosting, posting, line_of, lines, lines_after, fine_line}
+use Rattle.model.specs.Accounts.{Note, Line, Posting, Returned, Lost, Settled, Charged, NoPosting, posting, noted_line, lines, lines_after, fine_line}
 use Rattle.model.specs.Accounts.{price_line, fine_now, price_of, borrower, account}
 use Rattle.model.specs.Refusals.{checks, refusal, has_patron}
 use Rattle.model.specs.Requests.{IsLegal}
 use Rattle.model.proofs.Passing.{passed}
-use Rattle.model.proofs.Postings.{settling}
+use Rattle.model.proofs.Postings.{settling, charging}
 use Rattle.model.proofs.LoanLaws.{LoanLaws, legal-LoanLaws}
 use Rattle.model.proofs.Amending.{amended-none}
 
@@ -60,11 +60,12 @@ module _ (H : History) (inv : AccountLaws H) (loans_ok : LoanLaws H) (o : Owner)
   borrowers-step x ok l r e none = inv.borrowers l r e (enrolled x r.patron none)
 
   -- Lines of others.
-  line-other : (q p : ℕ) (s : Sort) (l : Option ℕ) (n : ℕ) → (q ≡ p → ⊥) → filter (λ x. x.patron == p) (line_of H q s l n) ≡ []
-  line-other q p s l zero ne = refl
-  line-other q p s l (suc n) ne = go (q == p) refl
+  line-other : (q p : ℕ) (s : Sort) (l : Option ℕ) (remark : Option Note) (n : ℕ) → (q ≡ p → ⊥)
+      → filter (λ x. x.patron == p) (noted_line H q s l remark n) ≡ []
+  line-other q p s l remark zero ne = refl
+  line-other q p s l remark (suc n) ne = go (q == p) refl
     where
-      go : (x : Bool) → (q == p) ≡ x → cond {A = List Line} x (record { patron = q; day = today H; sort = s; amount = suc n; loan = l } ∷ []) [] ≡ []
+      go : (x : Bool) → (q == p) ≡ x → cond {A = List Line} x (record { patron = q; day = today H; sort = s; amount = suc n; loan = l; note = remark } ∷ []) [] ≡ []
       go true e = absurd (ne (eqb-true q p e))
       go false e = refl
 
@@ -75,11 +76,11 @@ module _ (H : History) (inv : AccountLaws H) (loans_ok : LoanLaws H) (o : Owner)
       inv.borrowers l r.0 r.1 (ap (λ m. patron_of H m) (sym who ∙ same) ∙ none)
 
   fine-other : (c p : ℕ) (at : Place) → place H c ≡ at → patron_of H p ≡ None → filter (λ x. x.patron == p) (fine_line H (grace_of H) at) ≡ []
-  fine-other c p (Loan l) at none = line-other (borrower H l) p Fine (Some l) (fine_now H (grace_of H) l) (borrower-other c l p at none)
+  fine-other c p (Loan l) at none = line-other (borrower H l) p Fine (Some l) None (fine_now H (grace_of H) l) (borrower-other c l p at none)
   fine-other c p _ at none = refl
 
   price-other : (c p : ℕ) (at : Place) → place H c ≡ at → patron_of H p ≡ None → filter (λ x. x.patron == p) (price_line H c at) ≡ []
-  price-other c p (Loan l) at none = line-other (borrower H l) p Price (Some l) (price_of H c) (borrower-other c l p at none)
+  price-other c p (Loan l) at none = line-other (borrower H l) p Price (Some l) None (price_of H c) (borrower-other c l p at none)
   price-other c p _ at none = refl
 
   grown : (p : ℕ) (more : List Line) → patron_of H p ≡ None → filter (λ x. x.patron == p) more ≡ [] → filter (λ x. x.patron == p) (lines H ++ more) ≡ []
@@ -97,8 +98,11 @@ module _ (H : History) (inv : AccountLaws H) (loans_ok : LoanLaws H) (o : Owner)
       (filter-append (λ x. x.patron == p) (fine_line H (grace_of H) (place H c)) (price_line H c (place H c))
       ∙ ap (λ xs. xs ++ filter (λ x. x.patron == p) (price_line H c (place H c))) (fine-other c p (place H c) refl none)
       ∙ price-other c p (place H c) refl none)
-  strangers-then x (Settled q sort n) e ok p none =
-      grown p (line_of H q sort None n) none (line-other q p sort None n (paid-other q p (settling H o x q n sort ok e).patron none))
+  strangers-then x (Settled q sort remark n) e ok p none =
+      grown p (noted_line H q sort None remark n) none (line-other q p sort None remark n (paid-other q p (settling H o x q n sort remark ok e).patron none))
+  strangers-then x (Charged q remark n) e ok p none =
+      grown p (noted_line H q ChargeSort None (Some remark) n) none
+      (line-other q p ChargeSort None (Some remark) n (paid-other q p (charging H o x q n remark ok e).patron none))
   strangers-then x NoPosting e ok p none = inv.strangers p none
 
   strangers-step : (x : Command) → refusal H o x ≡ None → (p : ℕ) → patron_after x p (patron_of H p) ≡ None

@@ -1,17 +1,17 @@
 -- For every patron of a legal history, charges are payments and waivers plus the debt.
 use Rattle.std.proofs.Common.{◌≡◌, ℕ, zero, suc, ◌+◌, ◌≤◌, ◌==◌, Bool, true, false, cond, ◌||◌, List, [], ◌∷◌, refl, arith}
-use Rattle.std.specs.Prelude.{Option, None, filter, nat_lt}
+use Rattle.std.specs.Prelude.{Option, Some, None, filter, nat_lt}
 use Rattle.std.proofs.lemmas.List.Elements.{filter-append}
 use Rattle.std.proofs.lemmas.List.Sums.{sum_by-append}
 use Rattle.std.proofs.lemmas.Bool.{ltb-false, eqb-true, or_parts}
 use Rattle.terms.specs.declared.command.Owner.{Owner}
 use Rattle.terms.specs.declared.row.Sort.{Sort}
-use Rattle.terms.specs.declared.row.Sort.TheVariants.{Fine, Price}
+use Rattle.terms.specs.declared.row.Sort.TheVariants.{Fine, Price, Charge as ChargeSort}
 use Rattle.terms.specs.declared.command.Command.{Command}
 use Rattle.model.specs.History.{History}
 use Rattle.model.specs.Places.{Place, Loan, place}
 use Rattle.model.specs.Loans.{grace_of}
-use Rattle.model.specs.Accounts.{Line, Posting, Returned, Lost, Settled, NoPosting, posting, line_of, lines, lines_posted, fine_line}
+use Rattle.model.specs.Accounts.{Note, Line, Posting, Returned, Lost, Settled, Charged, NoPosting, posting, line_of, noted_line, lines, lines_posted, fine_line}
 use Rattle.model.specs.Accounts.{price_line, account, charge, credit, charges, credits, owed}
 use Rattle.model.specs.Refusals.{refusal}
 use Rattle.model.specs.Requests.{IsLegal}
@@ -43,6 +43,10 @@ price_credit : (H : History) (q p : ℕ) (l : Option ℕ) (n : ℕ) → credits 
 price_credit H q p l zero = refl
 price_credit H q p l (suc n) = one_charge _ p refl
 
+charge_credit : (H : History) (q p : ℕ) (remark : Option Note) (n : ℕ) → credits (of_patron p (noted_line H q ChargeSort None remark n)) ≡ 0
+charge_credit H q p remark zero = refl
+charge_credit H q p remark (suc n) = one_charge _ p refl
+
 fine_line_credit : (H : History) (p : ℕ) (at : Place) → credits (of_patron p (fine_line H (grace_of H) at)) ≡ 0
 fine_line_credit H p (Loan l) = fine_credit H _ p _ _
 fine_line_credit H p _ = refl
@@ -60,10 +64,11 @@ own_covers H p q n s true e c le covers x es ea =
     omega (arith, own, c', covers)
 own_covers H p q n s false e c le covers x es ea = omega (arith, covers)
 
-line_covers : (H : History) (p q n : ℕ) (s : Sort) → ((k : ℕ) → credit s k ≡ k) → n ≤ owed H q → Covers (account H p)
-    → credits (account H p) + credits (of_patron p (line_of H q s None n)) ≤ charges (account H p) + charges (of_patron p (line_of H q s None n))
-line_covers H p q zero s c le covers = omega (arith, covers)
-line_covers H p q (suc n) s c le covers = own_covers H p q (suc n) s (q == p) refl (c (suc n)) le covers _ refl refl
+line_covers : (H : History) (p q n : ℕ) (s : Sort) (remark : Option Note) → ((k : ℕ) → credit s k ≡ k) → n ≤ owed H q → Covers (account H p)
+    → credits (account H p) + credits (of_patron p (noted_line H q s None remark n))
+    ≤ charges (account H p) + charges (of_patron p (noted_line H q s None remark n))
+line_covers H p q zero s remark c le covers = omega (arith, covers)
+line_covers H p q (suc n) s remark c le covers = own_covers H p q (suc n) s (q == p) refl (c (suc n)) le covers _ refl refl
 
 -- ---- one event
 
@@ -84,8 +89,9 @@ new_covers H o x (Lost c) e p ok covers =
           (of_patron p (price_line H c (place H c))),
     )
     (omega (arith, covers, fine_line_credit H p (place H c), price_line_credit H c p (place H c)))
-new_covers H o x (Settled q sort n) e p ok covers =
-    line_covers H p q n sort (settlement x q n sort e).credits (amount_le H q n (settling H o x q n sort ok e).amount) covers
+new_covers H o x (Settled q sort remark n) e p ok covers =
+    line_covers H p q n sort remark (settlement x q n sort remark e).credits (amount_le H q n (settling H o x q n sort remark ok e).amount) covers
+new_covers H o x (Charged q remark n) e p ok covers = omega (arith, covers, charge_credit H q p (Some remark) n)
 new_covers H o x NoPosting e p ok covers = omega (arith, covers)
 
 -- ---- every legal history

@@ -7,15 +7,15 @@ use Rattle.std.proofs.lemmas.Bool.{eqb-true, eq-eqb}
 use Rattle.std.proofs.lemmas.List.Elements.{filter-append}
 use Rattle.std.proofs.lemmas.List.Sums.{sum_by-append}
 use Rattle.terms.specs.declared.command.Command.{Command}
-use Rattle.terms.specs.declared.command.Command.TheVariants.{CheckIn, Missing, Pay, Waive}
+use Rattle.terms.specs.declared.command.Command.TheVariants.{CheckIn, Missing, Pay, Waive, Charge, PayAt}
 use Rattle.terms.specs.declared.row.Sort.{Sort}
-use Rattle.terms.specs.declared.row.Sort.TheVariants.{Fine, Price, Payment, Waiver}
+use Rattle.terms.specs.declared.row.Sort.TheVariants.{Fine, Price, Payment, Waiver, Charge as ChargeSort}
 use Rattle.terms.specs.Money.{fine_for}
 use Rattle.model.specs.Calendar.{late}
 use Rattle.model.specs.History.{History, today, is_open}
 use Rattle.model.specs.Places.{Place, Nowhere, Shelf, HoldShelf, Transit, Loan, MissingCopy, WithdrawnCopy, place}
 use Rattle.model.specs.Loans.{LoanFacts, loan_of, loan_after, due, grace_of, ended, ended_after, is_loan_of_copy, is_open_loan}
-use Rattle.model.specs.Accounts.{Line, posting, lines, lines_after, line_of, fine_line, price_line, borrower, fine_now, price_of}
+use Rattle.model.specs.Accounts.{Note, Line, posting, lines, lines_after, noted_line, fine_line, price_line, borrower, fine_now, price_of}
 use Rattle.model.specs.Reports.{is_sort, lent_copy}
 use Rattle.model.specs.Invariant.{Invariant}
 use Rattle.model.specs.Requests.{IsLegal}
@@ -37,19 +37,19 @@ sum-append : (l : ℕ) (s : Sort) (xs ys : List Line) → sum_of l s (xs ++ ys) 
 sum-append l s xs ys = ap (sum_by (λ x. x.amount)) (filter-append (λ x. is_for l x.loan && is_sort x.sort s) xs ys)
     ∙ sum_by-append (λ x. x.amount) (filter (λ x. is_for l x.loan && is_sort x.sort s) xs) (filter (λ x. is_for l x.loan && is_sort x.sort s) ys)
 
-sum-one : (H : History) (l p : ℕ) (s t : Sort) (loan : Option ℕ) (n : ℕ) (b : Bool) → (is_for l loan && is_sort t s) ≡ b
-    → sum_of l s (line_of H p t loan n) ≡ cond b n 0
-sum-one H l p s t loan zero true e = refl
-sum-one H l p s t loan zero false e = refl
-sum-one H l p s t loan (suc n) b e = go b e
+sum-one : (H : History) (l p : ℕ) (s t : Sort) (loan : Option ℕ) (remark : Option Note) (n : ℕ) (b : Bool) → (is_for l loan && is_sort t s) ≡ b
+    → sum_of l s (noted_line H p t loan remark n) ≡ cond b n 0
+sum-one H l p s t loan remark zero true e = refl
+sum-one H l p s t loan remark zero false e = refl
+sum-one H l p s t loan remark (suc n) b e = go b e
   where
     go : (c : Bool) → (is_for l loan && is_sort t s) ≡ c
-        → sum_by (λ (x : Line). x.amount) (cond (is_for l loan && is_sort t s) (record { patron = p; day = today H; sort = t; amount = suc n; loan = loan } ∷ []) [])
+        → sum_by (λ (x : Line). x.amount) (cond (is_for l loan && is_sort t s) (record { patron = p; day = today H; sort = t; amount = suc n; loan = loan; note = remark } ∷ []) [])
         ≡ cond c (suc n) 0
     go true d = ap (λ y. sum_by (λ (x : Line). x.amount)
-        (cond y (record { patron = p; day = today H; sort = t; amount = suc n; loan = loan } ∷ []) [])) d ∙ omega arith
+        (cond y (record { patron = p; day = today H; sort = t; amount = suc n; loan = loan; note = remark } ∷ []) [])) d ∙ omega arith
     go false d = ap (λ y. sum_by (λ (x : Line). x.amount)
-        (cond y (record { patron = p; day = today H; sort = t; amount = suc n; loan = loan } ∷ []) [])) d
+        (cond y (record { patron = p; day = today H; sort = t; amount = suc n; loan = loan; note = remark } ∷ []) [])) d
 
 and-false : (b : Bool) → (b && false) ≡ false
 and-false true = refl
@@ -82,20 +82,20 @@ if-same k l f = go (k == l) refl
 
 module _ (H : History) (l : ℕ) where
   fines-of : (p : Place) → sum_of l Fine (fine_line H (grace_of H) p) ≡ cond (is_at p l) (fine_now H (grace_of H) l) 0
-  fines-of (Loan k) = sum-one H l (borrower H k) Fine Fine (Some k) (fine_now H (grace_of H) k) (k == l) (and-is-true (k == l))
+  fines-of (Loan k) = sum-one H l (borrower H k) Fine Fine (Some k) None (fine_now H (grace_of H) k) (k == l) (and-is-true (k == l))
       ∙ if-same k l (fine_now H (grace_of H))
   fines-of _ = refl
 
   no-prices : (p : Place) → sum_of l Price (fine_line H (grace_of H) p) ≡ 0
-  no-prices (Loan k) = sum-one H l (borrower H k) Price Fine (Some k) (fine_now H (grace_of H) k) false (and-false (k == l))
+  no-prices (Loan k) = sum-one H l (borrower H k) Price Fine (Some k) None (fine_now H (grace_of H) k) false (and-false (k == l))
   no-prices _ = refl
 
   prices-of : (c : ℕ) (p : Place) → sum_of l Price (price_line H c p) ≡ cond (is_at p l) (price_of H c) 0
-  prices-of c (Loan k) = sum-one H l (borrower H k) Price Price (Some k) (price_of H c) (k == l) (and-is-true (k == l))
+  prices-of c (Loan k) = sum-one H l (borrower H k) Price Price (Some k) None (price_of H c) (k == l) (and-is-true (k == l))
   prices-of c _ = refl
 
   no-fines : (c : ℕ) (p : Place) → sum_of l Fine (price_line H c p) ≡ 0
-  no-fines c (Loan k) = sum-one H l (borrower H k) Fine Price (Some k) (price_of H c) false (and-false (k == l))
+  no-fines c (Loan k) = sum-one H l (borrower H k) Fine Price (Some k) None (price_of H c) false (and-false (k == l))
   no-fines c _ = refl
 
 -- ---- which loan ends
@@ -218,11 +218,11 @@ module _ (H : History) (legal : IsLegal H) (l : ℕ) (fine : charged H l Fine �
       ≡ (elim (is_open_loan H l && not (is_some (loan_of H l) && is_none (ended_with H inv l c))) as (λ _. ℕ) [ true ↦ now | false ↦ before ])
   ends now before c = ap (λ b. elim b as (λ _. ℕ) [ true ↦ now | false ↦ before ]) (sym (ends-at H inv l c))
 
-  settles : (x : Command) (p n : ℕ) (s t : Sort) (now before : ℕ) → ended_after H x l (ended H l) ≡ ended H l
-      → charged H l s ≡ before → lines_after H (posting x) (lines H) ≡ lines H ++ line_of H p t None n → Charged x s now before
-  settles x p n s t now before still was adds =
-      ap (sum_of l s) adds ∙ sum-append l s (lines H) (line_of H p t None n)
-      ∙ ap₂ (λ a b. a + b) was (sum-one H l p s t None n false refl)
+  settles : (x : Command) (p n : ℕ) (s t : Sort) (remark : Option Note) (now before : ℕ) → ended_after H x l (ended H l) ≡ ended H l
+      → charged H l s ≡ before → lines_after H (posting x) (lines H) ≡ lines H ++ noted_line H p t None remark n → Charged x s now before
+  settles x p n s t remark now before still was adds =
+      ap (sum_of l s) adds ∙ sum-append l s (lines H) (noted_line H p t None remark n)
+      ∙ ap₂ (λ a b. a + b) was (sum-one H l p s t None remark n false refl)
       ∙ omega arith
       ∙ sym (ap (λ b. elim b as (λ _. ℕ) [ true ↦ now | false ↦ before ]) (stays-open H inv l x still))
 
@@ -244,8 +244,10 @@ module _ (H : History) (legal : IsLegal H) (l : ℕ) (fine : charged H l Fine �
       omega (arith, both, fined, unpriced) in
       sum-append l Fine (lines H) (fine_line H (grace_of H) (place H c) ++ price_line H c (place H c))
       ∙ ap (λ a. charged H l Fine + a) total ∙ adds-fine c (is_at (place H c) l) refl ∙ ends (fine_at H l) (fine_at_end H l) c
-  fine-step (Pay p n) = settles (Pay p n) p n Fine Payment (fine_at H l) (fine_at_end H l) refl fine refl
-  fine-step (Waive p n) = settles (Waive p n) p n Fine Waiver (fine_at H l) (fine_at_end H l) refl fine refl
+  fine-step (Pay p n) = settles (Pay p n) p n Fine Payment None (fine_at H l) (fine_at_end H l) refl fine refl
+  fine-step (Waive p n) = settles (Waive p n) p n Fine Waiver None (fine_at H l) (fine_at_end H l) refl fine refl
+  fine-step (PayAt p n b) = settles (PayAt p n b) p n Fine Payment (Some (record { branch = b; text = None })) (fine_at H l) (fine_at_end H l) refl fine refl
+  fine-step (Charge p n b text) = settles (Charge p n b text) p n Fine ChargeSort (Some (record { branch = b; text = Some text })) (fine_at H l) (fine_at_end H l) refl fine refl
   fine-step x = rests x Fine (fine_at H l) (fine_at_end H l) refl fine refl
 
   price-step : (x : Command) → Charged x Price (price_at x H l) (price_at_end H l)
@@ -261,8 +263,10 @@ module _ (H : History) (legal : IsLegal H) (l : ℕ) (fine : charged H l Fine �
       omega (arith, both, fined, priced) in
       sum-append l Price (lines H) (fine_line H (grace_of H) (place H c) ++ price_line H c (place H c))
       ∙ ap (λ a. charged H l Price + a) total ∙ adds-price c (is_at (place H c) l) refl ∙ ends (price_of H (lent_copy H l)) (price_at_end H l) c
-  price-step (Pay p n) = settles (Pay p n) p n Price Payment 0 (price_at_end H l) refl price refl
-  price-step (Waive p n) = settles (Waive p n) p n Price Waiver 0 (price_at_end H l) refl price refl
+  price-step (Pay p n) = settles (Pay p n) p n Price Payment None 0 (price_at_end H l) refl price refl
+  price-step (Waive p n) = settles (Waive p n) p n Price Waiver None 0 (price_at_end H l) refl price refl
+  price-step (PayAt p n b) = settles (PayAt p n b) p n Price Payment (Some (record { branch = b; text = None })) 0 (price_at_end H l) refl price refl
+  price-step (Charge p n b text) = settles (Charge p n b text) p n Price ChargeSort (Some (record { branch = b; text = Some text })) 0 (price_at_end H l) refl price refl
   price-step x = rests x Price (price_at x H l) (price_at_end H l) refl price refl
 
 pub charged-for-end : (H : History) → IsLegal H → (l : ℕ) → IsChargedForItsEnd H l

@@ -5,18 +5,18 @@ use Rattle.std.specs.Prelude.{Option, Some, None, option_map, unwrap_or}
 use Rattle.std.specs.Option.{option_or}
 use Rattle.std.proofs.lemmas.Bool.{eq-eqb}
 use Rattle.terms.specs.declared.command.Command.{Command}
-use Rattle.terms.specs.declared.command.Command.TheVariants.{CheckIn, Missing, Pay, Waive}
+use Rattle.terms.specs.declared.command.Command.TheVariants.{CheckIn, Missing, Pay, Waive, Charge, PayAt}
 use Rattle.terms.specs.declared.row.LineRow.{LineRow}
 use Rattle.terms.specs.declared.row.Sort.{Sort}
-use Rattle.terms.specs.declared.row.Sort.TheVariants.{Fine, Price, Payment, Waiver}
+use Rattle.terms.specs.declared.row.Sort.TheVariants.{Fine, Price, Payment, Waiver, Charge as ChargeSort}
 use Rattle.model.specs.History.{Event, History, today}
 use Rattle.model.specs.Places.{Place, Loan, place}
 use Rattle.model.specs.Loans.{LoanFacts, loan_of, grace_of, ended, ended_after, is_loan_of_copy}
-use Rattle.model.specs.Accounts.{Line, posting, lines, lines_after, nth_line, line_of, fine_line, price_line, borrower, fine_now, price_of}
+use Rattle.model.specs.Accounts.{Note, Line, posting, lines, lines_after, nth_line, noted_line, fine_line, price_line, borrower, fine_now, price_of}
 use Rattle.model.specs.Invariant.{Invariant}
 use Rattle.model.specs.Picture.{picture, line_columns, loan_columns}
 use Rattle.model.specs.Requests.{IsLegal}
-use Rattle.model.specs.ChargeLaws.{is_charge, HasFairCharges, Charges}
+use Rattle.model.specs.ChargeLaws.{is_for_loan, HasFairCharges, Charges}
 use Rattle.model.proofs.Bindings.{clash}
 use Rattle.model.proofs.ClaimsLaw.{map-some}
 use Rattle.model.proofs.Invariants.{legal-Invariant}
@@ -47,14 +47,14 @@ record IsTheLine (H : History) (p : ℕ) (t : Sort) (loan : Option ℕ) (k : ℕ
   loan_is : x.loan ≡ loan
   amount : 0 < x.amount
 
-nth-one : (H : History) (p : ℕ) (t : Sort) (loan : Option ℕ) (n k : ℕ) (x : Line) → nth_line (line_of H p t loan n) k ≡ Some x → IsTheLine H p t loan k x
-nth-one H p t loan zero k x e = absurd (none-some x e)
-nth-one H p t loan (suc n) zero x e = absurd (none-some x e)
-nth-one H p t loan (suc n) (suc zero) x e =
-    let same : ◌≡◌ {A = Line} (record { patron = p; day = today H; sort = t; amount = suc n; loan = loan }) x = some-same _ x e in
+nth-one : (H : History) (p : ℕ) (t : Sort) (loan : Option ℕ) (remark : Option Note) (n k : ℕ) (x : Line) → nth_line (noted_line H p t loan remark n) k ≡ Some x → IsTheLine H p t loan k x
+nth-one H p t loan remark zero k x e = absurd (none-some x e)
+nth-one H p t loan remark (suc n) zero x e = absurd (none-some x e)
+nth-one H p t loan remark (suc n) (suc zero) x e =
+    let same : ◌≡◌ {A = Line} (record { patron = p; day = today H; sort = t; amount = suc n; loan = loan; note = remark }) x = some-same _ x e in
     subst (λ (y : Line). IsTheLine H p t loan 1 y) same
     (record { number = refl; patron = refl; day = refl; sort = refl; loan_is = refl; amount = omega arith })
-nth-one H p t loan (suc n) (suc (suc k)) x e = absurd (none-some x e)
+nth-one H p t loan remark (suc n) (suc (suc k)) x e = absurd (none-some x e)
 
 -- A charge made now for the loan that the copy is on.
 record IsNewCharge (H : History) (c : ℕ) (t : Sort) (k : ℕ) (x : Line) : Type 0 where
@@ -65,12 +65,12 @@ record IsNewCharge (H : History) (c : ℕ) (t : Sort) (k : ℕ) (x : Line) : Typ
 module _ (H : History) (c k : ℕ) (x : Line) where
   new-fine : (p : Place) → place H c ≡ p → nth_line (fine_line H (grace_of H) p) k ≡ Some x → IsNewCharge H c Fine k x
   new-fine (Loan l) at e =
-      record { loan = l; on = at; line = nth-one H (borrower H l) Fine (Some l) (fine_now H (grace_of H) l) k x e }
+      record { loan = l; on = at; line = nth-one H (borrower H l) Fine (Some l) None (fine_now H (grace_of H) l) k x e }
   new-fine _ at e = absurd (none-some x e)
 
   new-price : (p : Place) → place H c ≡ p → nth_line (price_line H c p) k ≡ Some x → IsNewCharge H c Price k x
   new-price (Loan l) at e =
-      record { loan = l; on = at; line = nth-one H (borrower H l) Price (Some l) (price_of H c) k x e }
+      record { loan = l; on = at; line = nth-one H (borrower H l) Price (Some l) None (price_of H c) k x e }
   new-price _ at e = absurd (none-some x e)
 
 -- ---- what a command adds
@@ -84,7 +84,7 @@ spot H _ t = 1
 record AddsCharge (H : History) (x : Command) (k : ℕ) (y : Line) : Type 0 where
   copy : ℕ
   sort : Sort
-  is_one : is_charge sort ≡ true
+  is_one : is_for_loan sort ≡ true
   within : ℕ
   charge : IsNewCharge H copy sort within y
   at : k ≡ spot H x sort
@@ -92,17 +92,18 @@ record AddsCharge (H : History) (x : Command) (k : ℕ) (y : Line) : Type 0 wher
 
 -- The command adds this line for no loan.
 record AddsSettlement (H : History) (y : Line) : Type 0 where
-  sort : is_charge y.sort ≡ false
+  sort : is_for_loan y.sort ≡ false
   loan : y.loan ≡ None
   amount : 0 < y.amount
 
 abbrev Adds : History → Command → ℕ → Line → Type 0
 Adds H x n y = (k : ℕ) × (n ≡ length (lines H) + k) × (AddsCharge H x k y ⊎ AddsSettlement H y)
 
-settles : (H : History) (p n k : ℕ) (t : Sort) (y : Line) → is_charge t ≡ false → nth_line (line_of H p t None n) k ≡ Some y → AddsSettlement H y
-settles H p n k t y off e =
-    let w = nth-one H p t None n k y e in
-    record { sort = ap is_charge w.sort ∙ off; loan = w.loan_is; amount = w.amount }
+settles : (H : History) (p n k : ℕ) (t : Sort) (remark : Option Note) (y : Line) → is_for_loan t ≡ false → nth_line (noted_line H p t None remark n) k ≡ Some y
+    → AddsSettlement H y
+settles H p n k t remark y off e =
+    let w = nth-one H p t None remark n k y e in
+    record { sort = ap is_for_loan w.sort ∙ off; loan = w.loan_is; amount = w.amount }
 
 old-or-new : (H : History) (x : Command) (n : ℕ) (y : Line) → nth_line (lines_after H (posting x) (lines H)) n ≡ Some y
     → (nth_line (lines H) n ≡ Some y) ⊎ Adds H x n y
@@ -134,18 +135,30 @@ old-or-new H (Missing c) n y e = go (nth-append (lines H) (fine_line H (grace_of
         → (nth_line (lines H) n ≡ Some y) ⊎ Adds H (Missing c) n y
     go (inl at) = inl at
     go (inr w) = inr (more w.0 w.1 (nth-append (fine_line H (grace_of H) (place H c)) (price_line H c (place H c)) w.0 y w.2))
-old-or-new H (Pay p m) n y e = go (nth-append (lines H) (line_of H p Payment None m) n y e)
+old-or-new H (Pay p m) n y e = go (nth-append (lines H) (noted_line H p Payment None None m) n y e)
   where
-    go : (nth_line (lines H) n ≡ Some y) ⊎ ((k : ℕ) × (n ≡ length (lines H) + k) × (nth_line (line_of H p Payment None m) k ≡ Some y))
+    go : (nth_line (lines H) n ≡ Some y) ⊎ ((k : ℕ) × (n ≡ length (lines H) + k) × (nth_line (noted_line H p Payment None None m) k ≡ Some y))
         → (nth_line (lines H) n ≡ Some y) ⊎ Adds H (Pay p m) n y
     go (inl at) = inl at
-    go (inr w) = inr (w.0, w.1, inr (settles H p m w.0 Payment y refl w.2))
-old-or-new H (Waive p m) n y e = go (nth-append (lines H) (line_of H p Waiver None m) n y e)
+    go (inr w) = inr (w.0, w.1, inr (settles H p m w.0 Payment None y refl w.2))
+old-or-new H (Waive p m) n y e = go (nth-append (lines H) (noted_line H p Waiver None None m) n y e)
   where
-    go : (nth_line (lines H) n ≡ Some y) ⊎ ((k : ℕ) × (n ≡ length (lines H) + k) × (nth_line (line_of H p Waiver None m) k ≡ Some y))
+    go : (nth_line (lines H) n ≡ Some y) ⊎ ((k : ℕ) × (n ≡ length (lines H) + k) × (nth_line (noted_line H p Waiver None None m) k ≡ Some y))
         → (nth_line (lines H) n ≡ Some y) ⊎ Adds H (Waive p m) n y
     go (inl at) = inl at
-    go (inr w) = inr (w.0, w.1, inr (settles H p m w.0 Waiver y refl w.2))
+    go (inr w) = inr (w.0, w.1, inr (settles H p m w.0 Waiver None y refl w.2))
+old-or-new H (PayAt p m b) n y e = go (nth-append (lines H) (noted_line H p Payment None (Some (record { branch = b; text = None })) m) n y e)
+  where
+    go : (nth_line (lines H) n ≡ Some y) ⊎ ((k : ℕ) × (n ≡ length (lines H) + k) × (nth_line (noted_line H p Payment None (Some (record { branch = b; text = None })) m) k ≡ Some y))
+        → (nth_line (lines H) n ≡ Some y) ⊎ Adds H (PayAt p m b) n y
+    go (inl at) = inl at
+    go (inr w) = inr (w.0, w.1, inr (settles H p m w.0 Payment (Some (record { branch = b; text = None })) y refl w.2))
+old-or-new H (Charge p m b text) n y e = go (nth-append (lines H) (noted_line H p ChargeSort None (Some (record { branch = b; text = Some text })) m) n y e)
+  where
+    go : (nth_line (lines H) n ≡ Some y) ⊎ ((k : ℕ) × (n ≡ length (lines H) + k) × (nth_line (noted_line H p ChargeSort None (Some (record { branch = b; text = Some text })) m) k ≡ Some y))
+        → (nth_line (lines H) n ≡ Some y) ⊎ Adds H (Charge p m b text) n y
+    go (inl at) = inl at
+    go (inr w) = inr (w.0, w.1, inr (settles H p m w.0 ChargeSort (Some (record { branch = b; text = Some text })) y refl w.2))
 old-or-new H _ n y e = inl e
 
 -- ---- fair lines
@@ -161,9 +174,9 @@ record IsForEnded (H : History) (x : Line) : Type 0 where
 
 record AreFair (H : History) : Type 0 where
   amount : (n : ℕ) (x : Line) → nth_line (lines H) n ≡ Some x → 0 < x.amount
-  whose : (n : ℕ) (x : Line) → nth_line (lines H) n ≡ Some x → is_charge x.sort ≡ true → IsForEnded H x
-  settled : (n : ℕ) (x : Line) → nth_line (lines H) n ≡ Some x → is_charge x.sort ≡ false → x.loan ≡ None
-  once : (n m : ℕ) (x y : Line) → nth_line (lines H) n ≡ Some x → nth_line (lines H) m ≡ Some y → is_charge x.sort ≡ true → x.sort ≡ y.sort
+  whose : (n : ℕ) (x : Line) → nth_line (lines H) n ≡ Some x → is_for_loan x.sort ≡ true → IsForEnded H x
+  settled : (n : ℕ) (x : Line) → nth_line (lines H) n ≡ Some x → is_for_loan x.sort ≡ false → x.loan ≡ None
+  once : (n m : ℕ) (x y : Line) → nth_line (lines H) n ≡ Some x → nth_line (lines H) m ≡ Some y → is_for_loan x.sort ≡ true → x.sort ≡ y.sort
       → x.loan ≡ y.loan → n ≡ m
 
 ended-stays : (H : History) (x : Command) (l day : ℕ) → ended H l ≡ Some day → ended_after H x l (ended H l) ≡ Some day
@@ -207,14 +220,14 @@ module _ (H : History) (e : Event) (legal : IsLegal (e ∷ H)) (fair : AreFair H
   amount-step n x (inr (k, is, inl w)) = w.charge.line.amount
   amount-step n x (inr (k, is, inr w)) = w.amount
 
-  whose-step : (n : ℕ) (x : Line) → (nth_line (lines H) n ≡ Some x) ⊎ Adds H e.command n x → is_charge x.sort ≡ true → IsForEnded (e ∷ H) x
+  whose-step : (n : ℕ) (x : Line) → (nth_line (lines H) n ≡ Some x) ⊎ Adds H e.command n x → is_for_loan x.sort ≡ true → IsForEnded (e ∷ H) x
   whose-step n x (inl at) on = stays-ended x (fair.whose n x at on)
   whose-step n x (inr (k, is, inl w)) on = new-ended k x w
   whose-step n x (inr (k, is, inr w)) on = absurd (clash _ on w.sort)
 
-  settled-step : (n : ℕ) (x : Line) → (nth_line (lines H) n ≡ Some x) ⊎ Adds H e.command n x → is_charge x.sort ≡ false → x.loan ≡ None
+  settled-step : (n : ℕ) (x : Line) → (nth_line (lines H) n ≡ Some x) ⊎ Adds H e.command n x → is_for_loan x.sort ≡ false → x.loan ≡ None
   settled-step n x (inl at) off = fair.settled n x at off
-  settled-step n x (inr (k, is, inl w)) off = absurd (clash _ (ap is_charge w.charge.line.sort ∙ w.is_one) off)
+  settled-step n x (inr (k, is, inl w)) off = absurd (clash _ (ap is_for_loan w.charge.line.sort ∙ w.is_one) off)
   settled-step n x (inr (k, is, inr w)) off = w.loan
 
   -- The loan of a new charge has no charge yet.
@@ -226,18 +239,18 @@ module _ (H : History) (e : Event) (legal : IsLegal (e ∷ H)) (fair : AreFair H
       none-some y.day (sym open' ∙ shut)
 
   once-step : (n m : ℕ) (x y : Line) → (nth_line (lines H) n ≡ Some x) ⊎ Adds H e.command n x → (nth_line (lines H) m ≡ Some y) ⊎ Adds H e.command m y
-      → is_charge x.sort ≡ true → x.sort ≡ y.sort → x.loan ≡ y.loan → n ≡ m
+      → is_for_loan x.sort ≡ true → x.sort ≡ y.sort → x.loan ≡ y.loan → n ≡ m
   once-step n m x y (inl at) (inl there) on sorts loans = fair.once n m x y at there on sorts loans
   once-step n m x y (inl at) (inr (k, is, inl w)) on sorts loans = absurd (first-charge k y x w (fair.whose n x at on) (sym loans))
-  once-step n m x y (inl at) (inr (k, is, inr w)) on sorts loans = absurd (clash _ (sym (ap is_charge sorts) ∙ on) w.sort)
-  once-step n m x y (inr (k, is, inl w)) (inl there) on sorts loans = absurd (first-charge k x y w (fair.whose m y there (sym (ap is_charge sorts) ∙ on)) loans)
+  once-step n m x y (inl at) (inr (k, is, inr w)) on sorts loans = absurd (clash _ (sym (ap is_for_loan sorts) ∙ on) w.sort)
+  once-step n m x y (inr (k, is, inl w)) (inl there) on sorts loans = absurd (first-charge k x y w (fair.whose m y there (sym (ap is_for_loan sorts) ∙ on)) loans)
   once-step n m x y (inr (k, is, inr w)) (inl there) on sorts loans = absurd (clash _ on w.sort)
   once-step n m x y (inr (k, is, inl w)) (inr (j, is', inl v)) on sorts loans =
       let same : w.sort ≡ v.sort = sym w.charge.line.sort ∙ sorts ∙ v.charge.line.sort in
       let spots : k ≡ j = w.at ∙ ap (spot H e.command) same ∙ sym v.at in
       is ∙ ap (λ i. length (lines H) + i) spots ∙ sym is'
   once-step n m x y (inr (k, is, inr w)) (inr (j, is', v)) on sorts loans = absurd (clash _ on w.sort)
-  once-step n m x y (inr (k, is, inl w)) (inr (j, is', inr v)) on sorts loans = absurd (clash _ (sym (ap is_charge sorts) ∙ on) v.sort)
+  once-step n m x y (inr (k, is, inl w)) (inr (j, is', inr v)) on sorts loans = absurd (clash _ (sym (ap is_for_loan sorts) ∙ on) v.sort)
 
 are-fair : (H : History) → IsLegal H → AreFair H
 are-fair [] legal = record {
@@ -267,7 +280,7 @@ module _ (H : History) (legal : IsLegal H) where
       record {
         whose = λ n r row on.
             let x = line-row n r row in
-            let w = fair.whose n x.0 x.1 (subst (λ (q : LineRow). is_charge q.sort ≡ true) (sym x.2) on) in
+            let w = fair.whose n x.0 x.1 (subst (λ (q : LineRow). is_for_loan q.sort ≡ true) (sym x.2) on) in
             record {
               loan = w.loan;
               row = loan_columns H w.loan w.facts;
@@ -279,12 +292,12 @@ module _ (H : History) (legal : IsLegal H) where
         once = λ n m r s row there on sorts loans.
             let x = line-row n r row in
             let y = line-row m s there in
-            fair.once n m x.0 y.0 x.1 y.1 (subst (λ (q : LineRow). is_charge q.sort ≡ true) (sym x.2) on)
+            fair.once n m x.0 y.0 x.1 y.1 (subst (λ (q : LineRow). is_for_loan q.sort ≡ true) (sym x.2) on)
             (ap (λ (q : LineRow). q.sort) x.2 ∙ sorts ∙ sym (ap (λ (q : LineRow). q.sort) y.2))
             (ap (λ (q : LineRow). q.loan) x.2 ∙ loans ∙ sym (ap (λ (q : LineRow). q.loan) y.2));
         settled = λ n r row off.
             let x = line-row n r row in
-            sym (ap (λ (q : LineRow). q.loan) x.2) ∙ fair.settled n x.0 x.1 (subst (λ (q : LineRow). is_charge q.sort ≡ false) (sym x.2) off);
+            sym (ap (λ (q : LineRow). q.loan) x.2) ∙ fair.settled n x.0 x.1 (subst (λ (q : LineRow). is_for_loan q.sort ≡ false) (sym x.2) off);
         some_amount = λ n r row.
             let x = line-row n r row in
             subst (λ (q : LineRow). 0 < q.amount) x.2 (fair.amount n x.0 x.1);

@@ -6,6 +6,7 @@ use Rattle.terms.specs.declared.command.Owner.{Owner}
 use Rattle.terms.specs.declared.command.Command.{Command}
 use Rattle.terms.specs.declared.command.Command.TheVariants.{BeginDay, Branch, Week, CloseDay, OpenDay, Kind, Rule, Grace, Patron, Acquire}
 use Rattle.terms.specs.declared.command.Command.TheVariants.{SetCardKey, AmendPatron, AmendBranch, AmendTitle, AmendCopy, Rehome}
+use Rattle.terms.specs.declared.command.Command.TheVariants.{CopyBarcode, PatronBarcode, DropBarcode, Charge, PayAt}
 use Rattle.terms.specs.declared.command.Command.TheVariants.{CheckOut, CheckIn, Renew, PlaceHold, CancelHold, Unshelve, UnshelveCancelled}
 use Rattle.terms.specs.declared.command.Command.TheVariants.{Missing, Withdraw, Pay, Waive, Page, Ask}
 use Rattle.terms.specs.declared.question.Question.{Question}
@@ -41,6 +42,8 @@ asked-order H (question.Kinds after) = refl
 asked-order H (question.Rules k after) = refl
 asked-order H (question.MissingCopies after) = refl
 asked-order H (question.Loans c after) = refl
+asked-order H (question.FindBarcode barcode) = refl
+asked-order H (question.TillAt b d) = refl
 
 order : (H : History) (o : Owner) (c : Command) → map told (checks H o c) ≡ refusals_in_order c
 order H o (BeginDay d) = refl
@@ -59,6 +62,9 @@ order H o (AmendBranch b pickup name) = refl
 order H o (AmendTitle t text) = refl
 order H o (AmendCopy c k price) = refl
 order H o (Rehome c b) = refl
+order H o (CopyBarcode c barcode) = refl
+order H o (PatronBarcode p barcode) = refl
+order H o (DropBarcode barcode) = refl
 order H o (CheckOut p c b) = refl
 order H o (CheckIn c b) = refl
 order H o (Renew l) = refl
@@ -70,6 +76,8 @@ order H o (Missing c) = refl
 order H o (Withdraw c) = refl
 order H o (Pay p n) = refl
 order H o (Waive p n) = refl
+order H o (Charge p n b text) = refl
+order H o (PayAt p n b) = refl
 order H o (Page p) = refl
 order H o (Ask question) = asked-order H question
 

@@ -21,13 +21,14 @@ use Rattle.terms.specs.declared.command.Owner.{Owner}
 use Rattle.terms.specs.declared.command.Owner.TheVariants.{Desk, Patron as Reader}
 use Rattle.terms.specs.declared.command.Command.{Command}
 use Rattle.terms.specs.declared.command.Command.TheVariants.{CheckOut, CheckIn, Renew, PlaceHold, Unshelve, UnshelveCancelled, Missing, Pay, Waive, Page, Ask}
+use Rattle.terms.specs.declared.command.Command.TheVariants.{Charge, PayAt}
 use Rattle.terms.specs.declared.row.Sort.{Sort}
-use Rattle.terms.specs.declared.row.Sort.TheVariants.{Fine, Price}
+use Rattle.terms.specs.declared.row.Sort.TheVariants.{Fine, Price, Charge as ChargeSort}
 use Rattle.model.specs.Calendar.{is_single, opens, least, IsLeast}
 use Rattle.model.specs.History.{History, today, is_open, week_of, singles_of, loans, holds, HoldFacts, hold_of, branch_of, patron_of, CopyFacts, copy_of}
 use Rattle.model.specs.Places.{Place, Shelf, HoldShelf, Transit, Loan, place, state, is_ready, route, kept_for, goal_of, limit_now}
 use Rattle.model.specs.Loans.{LoanFacts, loan_of, due, grace_of, first_due, terms_for, no_terms}
-use Rattle.model.specs.Accounts.{Line, Posting, Returned, Lost, Settled, NoPosting, posting, line_of, lines, lines_after, fine_line}
+use Rattle.model.specs.Accounts.{Note, Line, Posting, Returned, Lost, Settled, Charged, NoPosting, posting, noted_line, lines, lines_after, fine_line}
 use Rattle.model.specs.Accounts.{price_line, fine_now, fine_at, price_of, borrower, owed}
 use Rattle.model.specs.Answers.{routed, unshelved, missed, accepted}
 use Rattle.model.specs.Invariant.{Invariant}
@@ -37,7 +38,7 @@ use Rattle.model.specs.DueDays.{HasWholeWeeks, IsDue, sets_due, period_end}
 use Rattle.model.specs.Forms.{HasForms}
 use Rattle.model.specs.Picture.{nth_line}
 use Rattle.model.proofs.Passing.{passed}
-use Rattle.model.proofs.Postings.{settling}
+use Rattle.model.proofs.Postings.{settling, charging}
 use Rattle.model.proofs.Bindings.{not-false, ready-is, kept-found}
 use Rattle.model.proofs.Legal.{legal-bound}
 use Rattle.model.proofs.Least.{least-IsLeast}
@@ -111,9 +112,10 @@ module _ (H : History) (legal : IsLegal H) (forms : HasForms H) where
   whole : HasWholeWeeks H
   whole = forms-whole H forms
 
-  line-in : (p : ℕ) (s : Sort) (loan : Option ℕ) (n : ℕ) → IsLarge p → IsAmount n → IfSome loan IsGiven → AreIn (line_of H p s loan n)
-  line-in p s loan zero a b c = tt
-  line-in p s loan (suc n) a b c = ((a, today-in H inv settings, b, c), tt)
+  line-in : (p : ℕ) (s : Sort) (loan : Option ℕ) (remark : Option Note) (n : ℕ) → IsLarge p → IsAmount n → IfSome loan IsGiven
+      → AreIn (noted_line H p s loan remark n)
+  line-in p s loan remark zero a b c = tt
+  line-in p s loan remark (suc n) a b c = ((a, today-in H inv settings, b, c), tt)
 
   -- The loan of a copy that is on loan, its borrower and its number.
   loan-in : (c l : ℕ) → place H c ≡ Loan l → IsLarge (borrower H l) × IsGiven l
@@ -134,11 +136,11 @@ module _ (H : History) (legal : IsLegal H) (forms : HasForms H) where
   owed-le p = omega (arith, inv.debts p, inv.lines_left)
 
   fine-in : (c : ℕ) (at : Place) → place H c ≡ at → AreIn (fine_line H (grace_of H) at)
-  fine-in c (Loan l) at = let r = loan-in c l at in line-in (borrower H l) Fine (Some l) (fine_now H (grace_of H) l) r.0 (omega (arith, fine-le l)) r.1
+  fine-in c (Loan l) at = let r = loan-in c l at in line-in (borrower H l) Fine (Some l) None (fine_now H (grace_of H) l) r.0 (omega (arith, fine-le l)) r.1
   fine-in c _ at = tt
 
   price-in : (c : ℕ) (at : Place) → place H c ≡ at → AreIn (price_line H c at)
-  price-in c (Loan l) at = let r = loan-in c l at in line-in (borrower H l) Price (Some l) (price_of H c) r.0 (omega (arith, price-le c)) r.1
+  price-in c (Loan l) at = let r = loan-in c l at in line-in (borrower H l) Price (Some l) None (price_of H c) r.0 (omega (arith, price-le c)) r.1
   price-in c _ at = tt
 
   -- What is paid or waived is at most what is owed, and the patron is there.
@@ -153,10 +155,15 @@ module _ (H : History) (legal : IsLegal H) (forms : HasForms H) where
   lines-step o x (Lost c) e ok was =
       append-in (lines H) (fine_line H (grace_of H) (place H c) ++ price_line H c (place H c)) was
       (append-in (fine_line H (grace_of H) (place H c)) (price_line H c (place H c)) (fine-in c (place H c) refl) (price-in c (place H c) refl))
-  lines-step o x (Settled p sort n) e ok was =
-      let pass = settling H o x p n sort ok e in
+  lines-step o x (Settled p sort remark n) e ok was =
+      let pass = settling H o x p n sort remark ok e in
       let paid = paid-in o p n pass.patron pass.amount in
-      append-in (lines H) (line_of H p sort None n) was (line-in p sort None n paid.0 paid.1 tt)
+      append-in (lines H) (noted_line H p sort None remark n) was (line-in p sort None remark n paid.0 paid.1 tt)
+  lines-step o x (Charged p remark n) e ok was =
+      let pass = charging H o x p n remark ok e in
+      let patron = there (patron_of H p) (not-false _ pass.patron) in
+      append-in (lines H) (noted_line H p ChargeSort None (Some remark) n) was
+      (line-in p ChargeSort None (Some remark) n (settings.patrons p patron.0 patron.1).0 (omega (arith, pass.amount)) tt)
   lines-step o x NoPosting e ok was = was
 
   -- ---- replies
@@ -247,6 +254,10 @@ module _ (H : History) (legal : IsLegal H) (forms : HasForms H) where
   accepted-kept o (Missing c) ok changes = missed-kept c (place H c)
   accepted-kept o (Pay p n) ok changes = omega (arith, owed-le p)
   accepted-kept o (Waive p n) ok changes = omega (arith, owed-le p)
+  accepted-kept o (PayAt p n b) ok changes = omega (arith, owed-le p)
+  accepted-kept o (Charge p n b text) ok changes =
+      let pass = charging H o (Charge p n b text) p n (record { branch = b; text = Some text }) ok refl in
+      omega (arith, owed-le p, pass.amount)
   accepted-kept o (Page p) ok changes = let never : ⊥ = cc in absurd never
   accepted-kept o (Ask question) ok changes = let never : ⊥ = cc in absurd never
   accepted-kept o _ ok changes = tt

@@ -9,6 +9,8 @@ mod RowsSearching
 mod RowsSettings
 mod RowsCopies
 mod RowsCorrections
+mod RowsLabels
+mod RowsCharges
 mod RowsClosedDays
 mod RowsChecks
 mod RowsOrder
@@ -49,8 +51,14 @@ pub mod CalendarsMeet
 pub mod SettingRanges
 pub mod PlaceSteps
 pub mod Postings
+pub mod Staying
+pub mod Unnoted
+pub mod Labels
+pub mod Notes
+pub mod Counters
 pub mod LendingRanges
 pub mod KeptRanges
+pub mod LabelRanges
 pub mod RowRanges
 pub mod References
 pub mod ClosedDays

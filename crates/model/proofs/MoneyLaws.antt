@@ -10,19 +10,19 @@ use Rattle.terms.specs.declared.command.Owner.{Owner}
 use Rattle.terms.specs.declared.command.Command.{Command}
 use Rattle.terms.specs.declared.command.Command.TheVariants.{CheckOut}
 use Rattle.terms.specs.declared.row.Sort.{Sort}
-use Rattle.terms.specs.declared.row.Sort.TheVariants.{Fine, Price}
+use Rattle.terms.specs.declared.row.Sort.TheVariants.{Fine, Price, Charge as ChargeSort}
 use Rattle.terms.specs.declared.refusal.Refusal.TheVariants as check
 use Rattle.model.specs.Calendar.{late}
 use Rattle.model.specs.History.{History, today, is_open, loans, loans_after, next_loan, HoldFacts, hold_made, holds, holds_after, CopyFacts, copy_of}
 use Rattle.model.specs.Places.{Place, Loan, place}
 use Rattle.model.specs.Loans.{LoanFacts, loan_of, loan_after, due, grace_of, terms_for, no_terms}
-use Rattle.model.specs.Accounts.{Line, Posting, Returned, Lost, Settled, NoPosting, posting, fine_now, price_of, borrower, line_of}
+use Rattle.model.specs.Accounts.{Note, Line, Posting, Returned, Lost, Settled, Charged, NoPosting, posting, fine_now, price_of, borrower, noted_line}
 use Rattle.model.specs.Accounts.{fine_line, price_line, lines_posted, lines_after, lines, charge, charges, owed}
 use Rattle.model.specs.Refusals.{refusal, checks}
 use Rattle.model.specs.Requests.{IsLegal}
 use Rattle.model.proofs.Passing.{passed}
 use Rattle.model.proofs.MadeHolds.{placeable}
-use Rattle.model.proofs.Postings.{settlement, lines-event, lines-numbered}
+use Rattle.model.proofs.Postings.{settlement, charging, lines-event, lines-numbered}
 use Rattle.model.proofs.SettingLaws.{SettingLaws, legal-SettingLaws}
 use Rattle.model.proofs.DueDayLaws.{checked_out-terms, rule-of_terms}
 
@@ -62,32 +62,33 @@ module _ (H : History) (inv : MoneyLaws H) (settings : SettingLaws H) where
   abbrev AreSmall : List Line → Type 0
   AreSmall xs = charges xs ≤ 1000000 * length xs
 
-  line-small : (p : ℕ) (s : Sort) (loan : Option ℕ) (n : ℕ) → charge s n ≤ 1000000 → AreSmall (line_of H p s loan n)
-  line-small p s loan zero le = omega arith
-  line-small p s loan (suc n) le = omega (arith, le)
+  line-small : (p : ℕ) (s : Sort) (loan : Option ℕ) (remark : Option Note) (n : ℕ) → charge s n ≤ 1000000 → AreSmall (noted_line H p s loan remark n)
+  line-small p s loan remark zero le = omega arith
+  line-small p s loan remark (suc n) le = omega (arith, le)
 
   fine_line-small : (at : Place) → AreSmall (fine_line H (grace_of H) at)
-  fine_line-small (Loan l) = line-small (borrower H l) Fine (Some l) (fine_now H (grace_of H) l) (omega (arith, fine-small l))
+  fine_line-small (Loan l) = line-small (borrower H l) Fine (Some l) None (fine_now H (grace_of H) l) (omega (arith, fine-small l))
   fine_line-small _ = omega arith
 
   price_line-small : (c : ℕ) (at : Place) → AreSmall (price_line H c at)
-  price_line-small c (Loan l) = line-small (borrower H l) Price (Some l) (price_of H c) (price-small c)
+  price_line-small c (Loan l) = line-small (borrower H l) Price (Some l) None (price_of H c) (price-small c)
   price_line-small c _ = omega arith
 
   append-small : (xs ys : List Line) → AreSmall xs → AreSmall ys → AreSmall (xs ++ ys)
   append-small xs ys a b = rw (sum_by-append (λ x. charge x.sort x.amount) xs ys, length-append xs ys) (omega (arith, a, b))
 
-  new-small : (x : Command) (made : Posting) → posting x ≡ made → AreSmall (lines_posted H (place H) (grace_of H) made)
-  new-small x (Returned c) e = fine_line-small (place H c)
-  new-small x (Lost c) e = append-small (fine_line H (grace_of H) (place H c)) (price_line H c (place H c)) (fine_line-small (place H c))
+  new-small : (o : Owner) (x : Command) (made : Posting) → refusal H o x ≡ None → posting x ≡ made → AreSmall (lines_posted H (place H) (grace_of H) made)
+  new-small o x (Returned c) ok e = fine_line-small (place H c)
+  new-small o x (Lost c) ok e = append-small (fine_line H (grace_of H) (place H c)) (price_line H c (place H c)) (fine_line-small (place H c))
       (price_line-small c (place H c))
-  new-small x (Settled p sort n) e = line-small p sort None n (omega (arith, (settlement x p n sort e).charges n))
-  new-small x NoPosting e = omega arith
+  new-small o x (Settled p sort remark n) ok e = line-small p sort None remark n (omega (arith, (settlement x p n sort remark e).charges n))
+  new-small o x (Charged p remark n) ok e = line-small p ChargeSort None (Some remark) n (charging H o x p n remark ok e).amount
+  new-small o x NoPosting ok e = omega arith
 
-  charged-step : (x : Command) → AreSmall (lines_after H (posting x) (lines H))
-  charged-step x =
+  charged-step : (o : Owner) (x : Command) → refusal H o x ≡ None → AreSmall (lines_after H (posting x) (lines H))
+  charged-step o x ok =
       let made = posting x in
-      rw (lines-event H made) (append-small (lines H) (lines_posted H (place H) (grace_of H) made) inv.charged (new-small x made refl))
+      rw (lines-event H made) (append-small (lines H) (lines_posted H (place H) (grace_of H) made) inv.charged (new-small o x made ok refl))
 
   loans-step : (o : Owner) (x : Command) → refusal H o x ≡ None → loans_after x (loans H) ≤ LAST_NUMBER
   loans-step o (CheckOut p c b) ok =
@@ -129,7 +130,7 @@ legal-MoneyLaws (e ∷ H) legal =
     let ok = legal.0.unrefused in
     record {
       caps = caps-step H inv settings e.owner e.command ok;
-      charged = charged-step H inv settings e.command;
+      charged = charged-step H inv settings e.owner e.command ok;
       lines_left = lines-numbered H e.owner e.command inv.lines_left ok;
       loans_left = loans-step H inv settings e.owner e.command ok;
       holds_left = holds-step H inv settings e.owner e.command (hold_made e.command) refl ok;

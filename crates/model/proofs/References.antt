@@ -1,6 +1,6 @@
 -- In every legal history, the rows that a row names exist.
 use Rattle.std.proofs.Common.{◌≡◌, ℕ, zero, suc, ◌==◌, Bool, true, false, cond, ◌&&◌, List, [], ◌∷◌, ◌++◌, refl, sym, ◌∙◌, ap, subst}
-use Rattle.std.specs.Prelude.{Option, Some, None, is_some, is_none, option_map, option_and_then, unwrap_or, bytes_eq}
+use Rattle.std.specs.Prelude.{Option, Some, None, is_some, option_map, option_and_then, unwrap_or, bytes_eq}
 use Rattle.std.specs.Option.{option_or}
 use Rattle.std.specs.List.{AllByRecursion}
 use Rattle.std.proofs.lemmas.Bool.{and_parts, eqb-true, eq-eqb}
@@ -9,100 +9,41 @@ use Rattle.terms.specs.Texts.{request_text}
 use Rattle.terms.specs.declared.command.Owner.{Owner}
 use Rattle.terms.specs.declared.command.Owner.TheVariants.{Patron as Reader}
 use Rattle.terms.specs.declared.command.Command.{Command}
-use Rattle.terms.specs.declared.command.Command.TheVariants.{SetCardKey, AmendPatron, AmendBranch, AmendTitle, AmendCopy, Rehome}
-use Rattle.terms.specs.declared.command.Command.TheVariants.{Branch, Kind, Rule, Grace, Patron, Acquire, CheckOut}
+use Rattle.terms.specs.declared.command.Command.TheVariants.{SetCardKey, AmendPatron, AmendCopy, Rehome}
+use Rattle.terms.specs.declared.command.Command.TheVariants.{Rule, Grace, Patron, Acquire, CheckOut}
 use Rattle.terms.specs.declared.row.Sort.{Sort}
-use Rattle.terms.specs.declared.row.Sort.TheVariants.{Fine, Price}
+use Rattle.terms.specs.declared.row.Sort.TheVariants.{Fine, Price, Charge as ChargeSort}
 use Rattle.terms.specs.declared.row.HoldState.{HoldState}
+use Rattle.terms.specs.declared.row.BarcodeRow.{BarcodeRow}
 use Rattle.terms.specs.declared.row.HoldState.TheVariants.{Waiting, Ready, Filled, Cancelled, Expired}
 use Rattle.terms.specs.declared.refusal.Refusal.TheVariants as check
 use Rattle.model.specs.Calendar.{is_single}
-use Rattle.model.specs.History.{History, today, singles_of, BranchFacts, branch_of, branch_after, KindFacts, kind_of, kind_after, Terms}
+use Rattle.model.specs.History.{History, today, singles_of, BranchFacts, branch_of, branch_after, kind_of, kind_after, Terms}
 use Rattle.model.specs.History.{rule_of, rule_after, PatronFacts, patron_of, patron_after, title_of, title_after, CopyFacts, copy_of}
-use Rattle.model.specs.History.{with_grace, with_card_key, with_kind, with_price, with_home, copy_after, copies, next_loan, HoldFacts, hold_made, hold_of, hold_after, next_hold}
+use Rattle.model.specs.History.{with_grace, with_card_key, with_kind, with_price, with_home, copy_after, copies, next_loan, HoldFacts, hold_made, hold_of, hold_after, next_hold, barcode_of}
 use Rattle.model.specs.Places.{Place, Nowhere, HoldShelf, Transit, Loan, place, state, is_kept_for, kept_for, goal_of, home_of}
 use Rattle.model.specs.Loans.{LoanFacts, loan_of, loan_after, grace_of, terms_for, no_terms}
-use Rattle.model.specs.Accounts.{Line, Posting, Returned, Lost, Settled, NoPosting, posting, line_of, lines, lines_after, fine_line}
+use Rattle.model.specs.Accounts.{Note, Line, Posting, Returned, Lost, Settled, Charged, NoPosting, posting, noted_line, line_of, lines, lines_after, fine_line}
 use Rattle.model.specs.Accounts.{price_line, fine_now, price_of, borrower}
 use Rattle.model.specs.Answers.{accepted}
 use Rattle.model.specs.Picture.{picture, rule_columns, patron_columns, copy_columns, loan_columns, hold_columns, if_ready, nth_line, line_columns, kept_columns}
 use Rattle.model.specs.Invariant.{Invariant, Fits}
 use Rattle.model.specs.Refusals.{refusal, checks}
 use Rattle.model.specs.Requests.{IsLegal, is_enrolled, Kept, kept_of}
-use Rattle.model.specs.References.{HasReferences}
+use Rattle.model.specs.References.{HasReferences, HasThing}
 use Rattle.model.proofs.Passing.{passed}
 use Rattle.model.proofs.MadeHolds.{placeable}
-use Rattle.model.proofs.Postings.{settling}
+use Rattle.model.proofs.Postings.{settling, charging}
+use Rattle.model.proofs.Labels.{label-there}
+use Rattle.model.proofs.Notes.{note-there}
 use Rattle.model.proofs.Bindings.{not-false, kept-is, find-some}
 use Rattle.model.proofs.ClaimsLaw.{map-some, hold-facts, transit-place}
 use Rattle.model.proofs.Invariants.{legal-Invariant}
 use Rattle.model.proofs.PlaceSteps.{KeepsPlaces, place_after-keeps, copy-known}
 use Rattle.model.proofs.Repeats.{same_owner-is}
 use Rattle.model.proofs.SettingRanges.{set-if, make-at, none-some}
-use Rattle.model.proofs.Amending.{amended-is_some, amended-keeps}
-
--- There is one.
-abbrev IsThere : {A : Type 0} → Option A → Type 0
-IsThere o = is_some o ≡ true
-
-some-there : {A : Type 0} (o : Option A) (x : A) → o ≡ Some x → IsThere o
-some-there o x e = ap is_some e
-
-not-none-there : {A : Type 0} (o : Option A) → (o ≡ None → ⊥) → IsThere o
-not-none-there (Some x) e = refl
-not-none-there None e = absurd (e refl)
-
-is_none-there : {A : Type 0} (o : Option A) → is_none o ≡ false → IsThere o
-is_none-there (Some x) e = refl
-is_none-there None e = let never : ⊥ = cc in absurd never
-
-map-there : {A B : Type 0} (f : A → B) (o : Option A) → IsThere o → IsThere (option_map f o)
-map-there f (Some x) e = refl
-map-there f None e = let never : ⊥ = cc in absurd never
-
--- ---- what is there stays
-
-or-there : {A : Type 0} (o made : Option A) → IsThere o → IsThere (option_or o made)
-or-there (Some x) made e = refl
-or-there None made e = let never : ⊥ = cc in absurd never
-
-cond-there : {A : Type 0} (b : Bool) (x : A) (o : Option A) → IsThere o
-    → IsThere (cond b (Some x) o)
-cond-there true x o e = refl
-cond-there false x o e = e
-
-branch-stays : (x : Command) (b : ℕ) (o : Option BranchFacts) → IsThere o
-    → IsThere (branch_after x b o)
-branch-stays (Branch n pickup name) b o e = or-there o _ e
-branch-stays (AmendBranch n pickup name) b o e = amended-is_some (n == b) _ o ∙ e
-branch-stays _ b o e = e
-
-kind-stays : (x : Command) (k : ℕ) (o : Option KindFacts) → IsThere o → IsThere (kind_after x k o)
-kind-stays (Kind n loans holds debt) k o e = cond-there (n == k) _ o e
-kind-stays _ k o e = e
-
-patron-stays : (x : Command) (p : ℕ) (o : Option PatronFacts) → IsThere o
-    → IsThere (patron_after x p o)
-patron-stays (Patron n k card_key name) p o e = or-there o _ e
-patron-stays (SetCardKey n card_key) p o e = amended-is_some (n == p) _ o ∙ e
-patron-stays (AmendPatron n k name) p o e = amended-is_some (n == p) _ o ∙ e
-patron-stays _ p o e = e
-
-title-stays : (x : Command) (t : ℕ) (o : Option (List ℕ)) → IsThere o → IsThere (title_after x t o)
-title-stays (Acquire n m k home price text) t o e = or-there o _ e
-title-stays (AmendTitle n text) t o e = amended-is_some (n == t) _ o ∙ e
-title-stays _ t o e = e
-
-copy-stays : (x : Command) (c : ℕ) (o : Option CopyFacts) → IsThere o → IsThere (copy_after x c o)
-copy-stays (Acquire n m k home price text) c o e = or-there o _ e
-copy-stays (AmendCopy n k price) c o e = amended-is_some (n == c) _ o ∙ e
-copy-stays (Rehome n home) c o e = amended-is_some (n == c) _ o ∙ e
-copy-stays _ c o e = e
-
-loan-stays : (H : History) (x : Command) (l : ℕ) (o : Option LoanFacts) → IsThere o
-    → IsThere (loan_after H x l o)
-loan-stays H (CheckOut p c b) l o e = cond-there (next_loan H == l) _ o e
-loan-stays H _ l o e = e
+use Rattle.model.proofs.Amending.{amended-keeps}
+use Rattle.model.proofs.Staying.{IsThere, some-there, not-none-there, is_none-there, map-there, branch-stays, kind-stays, patron-stays, title-stays, copy-stays, loan-stays}
 
 -- The title that an acquire names is there after it.
 title-made : (n : ℕ) (o : Option (List ℕ)) (text : List ℕ)
@@ -288,11 +229,11 @@ module _ (H : History) (inv : Invariant H) (before : ReferenceLaws H) (o : Owner
 
   -- ---- lines
 
-  line-there : (p : ℕ) (s : Sort) (loan : Option ℕ) (n : ℕ) → IsThere (patron_of H p) → ((l : ℕ)
+  line-there : (p : ℕ) (s : Sort) (loan : Option ℕ) (remark : Option Note) (n : ℕ) → IsThere (patron_of H p) → ((l : ℕ)
       → loan ≡ Some l → IsThere (loan_of H l))
-      → AllByRecursion (LineThere (patron_of H) (loan_of H)) (line_of H p s loan n)
-  line-there p s loan zero patron known = tt
-  line-there p s loan (suc n) patron known = ((patron, known), tt)
+      → AllByRecursion (LineThere (patron_of H) (loan_of H)) (noted_line H p s loan remark n)
+  line-there p s loan remark zero patron known = tt
+  line-there p s loan remark (suc n) patron known = ((patron, known), tt)
 
   -- A line for the loan of a copy that is on loan.
   loan_line-there : (c l : ℕ) (s : Sort) (n : ℕ) → place H c ≡ Loan l
@@ -301,7 +242,7 @@ module _ (H : History) (inv : Invariant H) (before : ReferenceLaws H) (o : Owner
       let r = inv.on_loan c l at in
       let patron : IsThere (patron_of H r.0.patron) = not-none-there (patron_of H r.0.patron)
       (inv.borrowers l r.0 r.1) in
-      line-there (borrower H l) s (Some l) n (subst (λ p. IsThere (patron_of H p)) (sym (ap
+      line-there (borrower H l) s (Some l) None n (subst (λ p. IsThere (patron_of H p)) (sym (ap
       (λ y. unwrap_or (option_map (λ q. q.patron) y) 0) r.1)) patron)
       (λ m same. let is : l ≡ m = cc in subst
       (λ k. IsThere (loan_of H k)) is (some-there (loan_of H l) r.0 r.1))
@@ -343,9 +284,13 @@ module _ (H : History) (inv : Invariant H) (before : ReferenceLaws H) (o : Owner
       all-append _ (lines H) (fine_line H (grace_of H) (place H c) ++ price_line H c (place H c)) before.lines
       (all-append _ (fine_line H (grace_of H) (place H c)) (price_line H c (place H c)) (fine-there c
       (place H c) refl) (price-there c (place H c) refl))
-  lines-step x (Settled p sort n) e ok =
-      all-append _ (lines H) (line_of H p sort None n) before.lines
-      (line-there p sort None n (not-false _ (settling H o x p n sort ok e).patron)
+  lines-step x (Settled p sort remark n) e ok =
+      all-append _ (lines H) (noted_line H p sort None remark n) before.lines
+      (line-there p sort None remark n (not-false _ (settling H o x p n sort remark ok e).patron)
+      (λ l f. absurd (none-some l f)))
+  lines-step x (Charged p remark n) e ok =
+      all-append _ (lines H) (noted_line H p ChargeSort None (Some remark) n) before.lines
+      (line-there p ChargeSort None (Some remark) n (not-false _ (charging H o x p n remark ok e).patron)
       (λ l f. absurd (none-some l f)))
   lines-step x NoPosting e ok = before.lines
 
@@ -522,4 +467,8 @@ legal-references H legal =
           (kept_of H o key) r e in
           patron-row H legal p (laws.callers p key m.0 (subst
           (λ q. kept_of H q key ≡ Some m.0) (ap (λ q. q.caller) m.2 ∙ sent) m.1));
+      barcode_thing = λ t r e. let m = map-some (λ x. record { thing = t; barcode = x }) (barcode_of H t) r e in
+          subst (λ (q : BarcodeRow). HasThing (picture H) q.thing) m.2 (label-there H legal t m.0 m.1);
+      note_line = λ n r e. let m = note-there H legal n r e in m.line;
+      note_branch = λ n r e. let m = note-there H legal n r e in branch-row H legal r.branch m.branch;
     }

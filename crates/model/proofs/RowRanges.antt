@@ -1,8 +1,8 @@
 -- In every legal history whose commands have their forms, every column of every row is within its limits.
-use Rattle.std.proofs.Common.{◌≡◌, ℕ, ◌+◌, ◌-◌, ◌≤◌, Bool, true, false, List, [], ◌∷◌, refl, sym, ◌∙◌, subst, arith}
+use Rattle.std.proofs.Common.{◌≡◌, ℕ, ◌+◌, ◌-◌, ◌≤◌, Bool, true, false, List, [], ◌∷◌, refl, sym, ◌∙◌, ap, subst, arith}
 use Rattle.std.specs.Prelude.{Option, Some, None, option_map, unwrap_or, IfSome}
 use Rattle.calendar.specs.Days.{IsDayNumber}
-use Rattle.terms.specs.Limits.{InLimits, IsLarge, IsMeta, IsBranch, IsKind, IsRule, IsPatron, IsTitle, IsCopy, IsLoan, IsHold, IsTransit, IsLine, IsKeptRow}
+use Rattle.terms.specs.Limits.{InLimits, IsLarge, IsSmall, IsMeta, IsBranch, IsKind, IsRule, IsPatron, IsTitle, IsCopy, IsLoan, IsHold, IsTransit, IsLine, IsKeptRow, IsBarcode, IsNote}
 use Rattle.terms.specs.declared.command.Owner.{Owner}
 use Rattle.terms.specs.declared.row.BranchRow.{BranchRow}
 use Rattle.terms.specs.declared.row.KindRow.{KindRow}
@@ -17,8 +17,11 @@ use Rattle.terms.specs.declared.row.HoldState.TheVariants.{Waiting, Ready, Fille
 use Rattle.terms.specs.declared.row.TransitRow.{TransitRow}
 use Rattle.terms.specs.declared.row.LineRow.{LineRow}
 use Rattle.terms.specs.declared.row.KeptRow.{KeptRow}
+use Rattle.terms.specs.declared.row.Thing.{Thing}
+use Rattle.terms.specs.declared.row.BarcodeRow.{BarcodeRow}
+use Rattle.terms.specs.declared.row.NoteRow.{NoteRow}
 use Rattle.model.specs.History.{History, branch_of, kind_of, rule_of, patron_of, title_of}
-use Rattle.model.specs.History.{copy_of}
+use Rattle.model.specs.History.{copy_of, barcode_of}
 use Rattle.model.specs.Places.{Place, Nowhere, Shelf, HoldShelf, Transit, Loan, MissingCopy, WithdrawnCopy, place, state, is_kept_for, kept_for, limit, goal_of}
 use Rattle.model.specs.Loans.{LoanFacts, loan_of, due, ended, renewals, renewals_left}
 use Rattle.model.specs.Accounts.{lines}
@@ -38,6 +41,9 @@ use Rattle.model.proofs.SettingRanges.{SettingRanges, legal-SettingRanges, none-
 use Rattle.model.proofs.PlaceSteps.{copy-known}
 use Rattle.model.proofs.LendingRanges.{LendingRanges, PlaceIn, legal-LendingRanges, today-in}
 use Rattle.model.proofs.KeptRanges.{least-in, due-in, nth-in, legal-lines, legal-kept, owed-le}
+use Rattle.model.proofs.LabelRanges.{barcode-form, thing-in, branch-small, legal-told, nth-told}
+use Rattle.model.proofs.Labels.{named-there}
+use Rattle.model.proofs.Notes.{note-of, note-there}
 
 -- A shelf limit is a day of the calendar.
 limit-in : (H : History) (h d : ℕ) → IsLimit H h d → IsDayNumber d
@@ -191,6 +197,21 @@ module _ (H : History) (legal : IsLegal H) (forms : HasForms H) where
       let f = legal-kept H legal forms o k m.0 m.1 in
       subst (λ q. (q.caller ≡ o) × (q.key ≡ k) × IsKeptRow q) m.2 (refl, refl, (f.0, f.1, f.2, (m.0.reply, f.3, refl)))
 
+  barcode-in : (t : Thing) (r : BarcodeRow) → (picture H).barcodes t ≡ Some r → (r.thing ≡ t) × IsBarcode r
+  barcode-in t r e =
+      let m = map-some (λ x. record { thing = t; barcode = x }) (barcode_of H t) r e in
+      subst (λ (q : BarcodeRow). (q.thing ≡ t) × IsBarcode q) m.2
+      (refl, (thing-in H settings t (named-there H legal t m.0 m.1), barcode-form H forms t m.0 m.1))
+
+  note-in : (n : ℕ) (r : NoteRow) → (picture H).notes n ≡ Some r → (r.line ≡ n) × IsNote r
+  note-in n r e =
+      let w = note-of H n r e in
+      let f = nth-in (lines H) n w.at (legal-lines H legal forms) w.numbered in
+      let small = branch-small H settings r.branch (note-there H legal n r e).branch in
+      let told = nth-told (lines H) n w.at w.note (legal-told H forms) w.numbered w.noted in
+      let same = ap (λ (q : NoteRow). q.branch) w.is in
+      subst (λ (q : NoteRow). (q.line ≡ n) × IsNote q) w.is (refl, ((f.1, omega (arith, f.2, inv.lines_left)), subst IsSmall (sym same) small, told))
+
 -- Every row of a legal history lies in its limits.
 pub legal-rows : (H : History) → IsLegal H → HasForms H → InLimits (picture H)
 legal-rows H legal forms = record {
@@ -210,4 +231,6 @@ legal-rows H legal forms = record {
   transits = transit-in H legal forms;
   lines = line-in H legal forms;
   kept = kept_row-in H legal forms;
+  barcodes = barcode-in H legal forms;
+  notes = note-in H legal forms;
 }

@@ -6,7 +6,7 @@ use Rattle.terms.specs.declared.command.Command.TheVariants.{CheckIn, Renew, Mis
 use Rattle.terms.specs.declared.question.Question.TheVariants as question
 use Rattle.terms.specs.Texts.{reply_text, reply_words, routed_words}
 use lib.Utf8.{encode}
-use Rattle.std.specs.Str.{chars, encode_utf8_all}
+use Rattle.std.specs.Str.{chars}
 use Rattle.finding.specs.Finding.{fold, folded, begins_with, occurs_in, words, finds}
 use Rattle.model.proofs.Rows.{desk, Gives, gives, ground}
 

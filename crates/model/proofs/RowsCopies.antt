@@ -1,7 +1,6 @@
 -- Worked examples of what the desk is shown of missing copies, and of the loans of a copy.
-use Prim.Native.String.{String}
 use lib.Utf8.{encode}
-use Rattle.std.specs.Prelude.{◌≡◌, ℕ, List, [], ◌∷◌, ◌++◌, map, codes, refl}
+use Rattle.std.specs.Prelude.{◌≡◌, List, [], ◌∷◌, ◌++◌, map, codes, refl}
 use Rattle.std.specs.Fmt.{digits}
 use Rattle.std.specs.Str.{encode_utf8_all}
 use Rattle.calendar.specs.Days.{day_text, civil_of}

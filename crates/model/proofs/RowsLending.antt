@@ -68,11 +68,11 @@ unfolding digits reply_text reply_words routed_words
 renewal_waits_for_the_line = gives refl
 
 -- A copy that is lost costs its fine and its price, and the debt stops the next loan.
-missing_copy_is_charged : Gives ground
+missing_copy_is_for_loand : Gives ground
     (desk (CheckOut 1 10 1 ∷ BeginDay 20529 ∷ Missing 10 ∷ CheckIn 10 1 ∷ Page 1 ∷ CheckOut 1 11 1 ∷ []))
     ("loan 1 due 2026-03-09" ∷ "ok" ∷ "fine 100 price 2500" ∷ "fine 0 shelf 1" ∷ "patron 1 owed 2600 name Ann Bell" ∷ "refused 38" ∷ [])
 unfolding digits reply_text reply_words routed_words
-missing_copy_is_charged = gives refl
+missing_copy_is_for_loand = gives refl
 
 -- Who owes more than the limit of the kind may not renew; who owes just that may.
 debt_stops_renewals : Gives ground

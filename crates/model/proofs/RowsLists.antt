@@ -1,5 +1,5 @@
 -- Worked examples of which rows the lists and reports have: their numbers alone, which are quick to compute.
-use Rattle.std.specs.Prelude.{◌≡◌, ℕ, List, [], ◌∷◌, ◌++◌, map, codes, refl, Some, None}
+use Rattle.std.specs.Prelude.{◌≡◌, List, [], ◌∷◌, ◌++◌, map, codes, refl, None}
 use Rattle.std.specs.Fmt.{digits}
 use Rattle.terms.specs.declared.command.Command.{Command}
 use Rattle.terms.specs.declared.command.Command.TheVariants.{BeginDay, CheckOut, CheckIn, PlaceHold, Missing, Pay, Waive, Page}

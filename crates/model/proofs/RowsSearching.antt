@@ -1,7 +1,7 @@
 -- Worked examples of searches.
 use Prim.Native.String.{String}
 use lib.Utf8.{encode}
-use Rattle.std.specs.Prelude.{◌≡◌, ◌==◌, ◌||◌, ℕ, zero, suc, ◌+◌, not, List, [], ◌∷◌, ◌++◌, map, codes, decimal, refl}
+use Rattle.std.specs.Prelude.{◌≡◌, ◌==◌, ◌||◌, ℕ, zero, suc, not, List, [], ◌∷◌, ◌++◌, map, codes, decimal, refl}
 use Rattle.std.specs.Fmt.{digits}
 use Rattle.std.specs.List.{join_with_byte}
 use Rattle.std.specs.Str.{chars, encode_utf8_all}

@@ -1,8 +1,6 @@
 -- Worked examples of settings: what the desk is shown of branches, closed days, patron kinds and rules.
-use Prim.Native.String.{String}
-use Rattle.std.specs.Prelude.{◌≡◌, ℕ, List, [], ◌∷◌, ◌++◌, map, codes, refl}
+use Rattle.std.specs.Prelude.{◌≡◌, [], ◌∷◌, map, codes, refl}
 use Rattle.std.specs.Fmt.{digits}
-use Rattle.std.specs.List.{join_with_byte}
 use Rattle.calendar.specs.Days.{day_text, civil_of}
 use Rattle.terms.specs.declared.command.Command.TheVariants.{BeginDay, CloseDay, OpenDay, Kind, Rule, Grace, AmendBranch, Week, Ask}
 use Rattle.terms.specs.declared.question.Question.TheVariants.{Branches, ClosedDays, Kinds, Rules}

@@ -1,7 +1,6 @@
 -- Worked examples of the rows in the tables.
-use Rattle.std.specs.Prelude.{◌≡◌, ℕ, [], ◌∷◌, map, codes, refl, Some, None, true, false}
+use Rattle.std.specs.Prelude.{◌≡◌, [], ◌∷◌, map, codes, refl, Some, None, true, false}
 use Rattle.std.specs.Fmt.{digits}
-use Rattle.calendar.specs.Days.{day_text, civil_of}
 use Rattle.terms.specs.declared.command.Owner.TheVariants.{Desk}
 use Rattle.terms.specs.declared.command.Command.TheVariants.{SetCardKey, AmendPatron, AmendBranch, AmendTitle, AmendCopy, Rehome}
 use Rattle.terms.specs.declared.command.Command.TheVariants.{BeginDay, Branch, CloseDay, Kind, Rule, Grace, Acquire, CheckOut, CheckIn, Renew}
@@ -13,7 +12,7 @@ use Rattle.terms.specs.Texts.{request_text, command_words, reply_text, reply_wor
 use Rattle.model.specs.History.{History}
 use Rattle.model.specs.Picture.{picture}
 use Rattle.model.specs.Requests.{after}
-use Rattle.model.proofs.Rows.{closed_in, desk, Gives, gives, ground}
+use Rattle.model.proofs.Rows.{closed_in, desk, ground}
 
 abbrev lent : History
 lent = after ground (desk (CheckOut 1 10 1 ∷ CheckOut 2 20 2 ∷ Grace 1 1 2 ∷ CheckOut 3 11 1 ∷ PlaceHold 2 100 2 (Some 20516) ∷ Renew 3 ∷ CloseDay 1 20540
@@ -25,7 +24,7 @@ worked = after ground (desk (CheckOut 1 10 1 ∷ CheckOut 2 20 2 ∷ Grace 1 1 2
     ∷ Acquire 12 100 1 1 2500 (codes "Rivers of the North") ∷ CheckIn 12 2
     ∷ PlaceHold 1 200 1 None ∷ []))
 
-meta_row_of_worked : (picture worked).meta ≡ record { schema = 3; today = 20523; next_loan = 4; next_hold = 3; next_line = 5 }
+meta_row_of_worked : (picture worked).meta ≡ record { schema = 4; today = 20523; next_loan = 4; next_hold = 3; next_line = 5 }
 unfolding digits
 meta_row_of_worked = refl
 
@@ -208,11 +207,11 @@ hold_rows_of_apart : map (picture apart).holds (1 ∷ 2 ∷ [])
 unfolding digits
 hold_rows_of_apart = refl
 
-meta_row_of_apart : (picture apart).meta ≡ record { schema = 3; today = 20516; next_loan = 2; next_hold = 3; next_line = 1 }
+meta_row_of_apart : (picture apart).meta ≡ record { schema = 4; today = 20516; next_loan = 2; next_hold = 3; next_line = 1 }
 unfolding digits
 meta_row_of_apart = refl
 
-meta_row_of_ground : (picture ground).meta ≡ record { schema = 3; today = 20514; next_loan = 1; next_hold = 1; next_line = 1 }
+meta_row_of_ground : (picture ground).meta ≡ record { schema = 4; today = 20514; next_loan = 1; next_hold = 1; next_line = 1 }
 unfolding digits
 meta_row_of_ground = refl
 

@@ -9,6 +9,7 @@ use Rattle.terms.specs.declared.command.Owner.TheVariants.{Desk, Patron as Reade
 use Rattle.terms.specs.declared.command.Command.{Command}
 use Rattle.terms.specs.declared.command.Command.TheVariants.{BeginDay, Branch, Week, CloseDay, OpenDay, Kind, Rule, Grace, Patron, Acquire}
 use Rattle.terms.specs.declared.command.Command.TheVariants.{SetCardKey, AmendPatron, AmendBranch, AmendTitle, AmendCopy, Rehome}
+use Rattle.terms.specs.declared.command.Command.TheVariants.{CopyBarcode, PatronBarcode, DropBarcode, Charge, PayAt}
 use Rattle.terms.specs.declared.command.Command.TheVariants.{CheckOut, CheckIn, Renew, PlaceHold, CancelHold, Unshelve, UnshelveCancelled}
 use Rattle.terms.specs.declared.command.Command.TheVariants.{Missing, Withdraw, Pay, Waive, Page, Ask}
 use Rattle.terms.specs.declared.question.Question.{Question}
@@ -19,23 +20,27 @@ use Rattle.terms.specs.declared.refusal.Refusal.TheVariants.{BadDay, AlreadyClos
 use Rattle.terms.specs.declared.refusal.Refusal.TheVariants.{CopyMissing, CopyWithdrawn, HoldWaits, TooManyLoans, OwesTooMuch, PastCalendar}
 use Rattle.terms.specs.declared.refusal.Refusal.TheVariants.{LoanEnded, Overdue, NoRenewalsLeft, AlreadyHolds, TooManyHolds, HasOnLoan}
 use Rattle.terms.specs.declared.refusal.Refusal.TheVariants.{WrongHoldState, LimitNotPassed, BadAmount, NumbersUsedUp}
+use Rattle.terms.specs.declared.refusal.Refusal.TheVariants.{UnknownBarcode, BarcodeTaken}
+use Rattle.terms.specs.declared.row.Thing.{Thing}
+use Rattle.terms.specs.declared.row.Thing.TheVariants as thing
+use Rattle.terms.specs.Pictures.{same_thing}
 use Rattle.model.specs.Calendar.{is_single}
 use Rattle.model.specs.Checks.{Check, first_failing, is_within_limits, is_small_number}
-use Rattle.model.specs.History.{History, numbers_to, holds}
+use Rattle.model.specs.History.{History, numbers_to, holds, thing_of}
 use Rattle.model.specs.Places.{Place, Shelf, HoldShelf, place, state, is_begun, is_waiting, is_ready, line_by, title_of_copy}
 use Rattle.model.specs.Places.{fills_by, patron_of_hold}
 use Rattle.model.specs.Loans.{title_of_loan}
 use Rattle.model.specs.Accounts.{borrower}
 use Rattle.model.specs.Sights.{sight, line_seen, fills_seen}
-use Rattle.model.specs.Refusals.{has_patron, is_bad_amount, lacks_lines}
+use Rattle.model.specs.Refusals.{has_patron, is_taken, is_bad_amount, lacks_lines}
 use Rattle.model.specs.Refusals.{is_bad_first_day, kind_now, is_own, has_loan, has_hold, active_holds, has_all_loans, has_all_holds, has_hold_on}
 use Rattle.model.specs.Refusals.{has_other_hold, owes_too_much, is_elsewhere, is_kept_for_other, is_first_other, is_wanted_by_other, is_empty}
 use Rattle.model.specs.Refusals.{is_withdrawn, is_missing, is_on_loan, is_in_transit, is_on_hold_shelf, checks, checks_asked, refusal}
 use Rattle.model.specs.Renaming.{IsRenaming, renamed, renamed_owner, renamed_question}
-use Rattle.model.proofs.SameFacts.{IsSame, same-eqb, title-of-copy, title-of-hold, goal-of, owns-hold, patron-of-hold, hold-there, line-by, fills-same}
+use Rattle.model.proofs.SameFacts.{IsSame, renamed_thing, same-eqb, title-of-copy, title-of-hold, goal-of, owns-hold, patron-of-hold, hold-there, line-by, fills-same}
 use Rattle.model.proofs.SameFacts.{terms-same, loan-there, borrower-same, left-same, title-of-loan, open-loans, on-loan, owed-same, line-count}
 use Rattle.model.proofs.SameFacts.{fined-count, lost-count}
-use Rattle.model.proofs.SameSteps.{places, states, begun, renew-step}
+use Rattle.model.proofs.SameSteps.{places, states, begun, renew-step, same-thing}
 
 module _ (f : ℕ → ℕ) (new : IsRenaming f) (K H : History) (same : IsSame f K H) where
   -- ---- patrons
@@ -132,6 +137,26 @@ module _ (f : ℕ → ℕ) (new : IsRenaming f) (K H : History) (same : IsSame f
   borrower-owes : (l : ℕ) → owes_too_much K (sight K) (borrower K l) ≡ owes_too_much H (sight H) (borrower H l)
   borrower-owes l = ap (owes_too_much K (sight K)) (borrower-same f new K H same l) ∙ owes-too-much (borrower H l)
 
+  -- ---- barcodes
+
+  -- Whether a barcode is another's is asked of the thing that has it.
+  taken-as : (t : Thing) (o : Option Thing)
+      → unwrap_or (option_map (λ u. not (same_thing u (renamed_thing f t))) (option_map (renamed_thing f) o)) false
+      ≡ unwrap_or (option_map (λ u. not (same_thing u t)) o) false
+  taken-as t None = refl
+  taken-as t (Some u) = ap not (same-thing f new u t)
+
+  taken : (t : Thing) (barcode : List ℕ) → is_taken K (renamed_thing f t) barcode ≡ is_taken H t barcode
+  taken t barcode = ap (λ o. unwrap_or (option_map (λ u. not (same_thing u (renamed_thing f t))) o) false) (same.finds barcode)
+      ∙ taken-as t (thing_of H barcode)
+
+  nobodys-as : (o : Option Thing) → is_none (option_map (renamed_thing f) o) ≡ is_none o
+  nobodys-as None = refl
+  nobodys-as (Some u) = refl
+
+  nobodys : (barcode : List ℕ) → is_none (thing_of K barcode) ≡ is_none (thing_of H barcode)
+  nobodys barcode = ap is_none (same.finds barcode) ∙ nobodys-as (thing_of H barcode)
+
   -- ---- the table
 
   asked-same : (q : Question) → checks_asked K (renamed_question f q) ≡ checks_asked H q
@@ -155,6 +180,8 @@ module _ (f : ℕ → ℕ) (new : IsRenaming f) (K H : History) (same : IsSame f
   asked-same (question.Rules k after) = λ i. (UnknownKind, is_none (same.kind_facts k i)) ∷ []
   asked-same (question.MissingCopies after) = refl
   asked-same (question.Loans c after) = λ i. (UnknownCopy, not (is_some (same.copy_facts c i))) ∷ []
+  asked-same (question.FindBarcode barcode) = λ i. (UnknownBarcode, nobodys barcode i) ∷ []
+  asked-same (question.TillAt b d) = λ i. (UnknownBranch, not (is_some (same.branch_facts b i))) ∷ []
 
   settled-same : (p n : ℕ) → ◌≡◌ {A = List Check}
       ((UnknownPatron, not (has_patron K (f p))) ∷ (BadAmount, is_bad_amount K (sight K) (f p) n) ∷ (NumbersUsedUp, lacks_lines K (sight K) 1) ∷ [])
@@ -194,6 +221,10 @@ module _ (f : ℕ → ℕ) (new : IsRenaming f) (K H : History) (same : IsSame f
       ∷ (UnknownCopy, not (is_some (same.copy_facts c i))) ∷ []
   checks-same o (Rehome c b) = λ i. (UnknownBranch, not (is_some (same.branch_facts b i)))
       ∷ (UnknownCopy, not (is_some (same.copy_facts c i))) ∷ (CopyWithdrawn, is_withdrawn (same.places c i)) ∷ []
+  checks-same o (CopyBarcode c barcode) = λ i. (UnknownCopy, not (is_some (same.copy_facts c i))) ∷ (BarcodeTaken, taken (thing.Copy c) barcode i) ∷ []
+  checks-same o (PatronBarcode p barcode) = λ i. (UnknownPatron, not (is_some (same.patron_facts p i)))
+      ∷ (BarcodeTaken, taken (thing.Patron p) barcode i) ∷ []
+  checks-same o (DropBarcode barcode) = λ i. (UnknownBarcode, nobodys barcode i) ∷ []
   checks-same o (CheckOut p c b) = λ i.
       (UnknownBranch, not (is_some (same.branch_facts b i))) ∷ (UnknownPatron, not (is_some (same.patron_facts p i)))
       ∷ (UnknownCopy, not (is_some (same.copy_facts c i)))
@@ -227,6 +258,11 @@ module _ (f : ℕ → ℕ) (new : IsRenaming f) (K H : History) (same : IsSame f
       ∷ (InTransit, is_in_transit (same.places c i)) ∷ (OnHoldShelf, is_on_hold_shelf (same.places c i)) ∷ []
   checks-same o (Pay p n) = settled-same p n
   checks-same o (Waive p n) = settled-same p n
+  checks-same o (Charge p n b text) = λ i. (OutOfLimits, not (is_within_limits (Charge p n b text)))
+      ∷ (UnknownPatron, not (is_some (same.patron_facts p i))) ∷ (UnknownBranch, not (is_some (same.branch_facts b i))) ∷ (BadAmount, n == 0)
+      ∷ (NumbersUsedUp, nat_lt LAST_NUMBER (line-count f new K H same i + 1)) ∷ []
+  checks-same o (PayAt p n b) = λ i. (UnknownPatron, not (is_some (same.patron_facts p i))) ∷ (UnknownBranch, not (is_some (same.branch_facts b i)))
+      ∷ (BadAmount, (n == 0) || nat_lt (owed-same f new K H same p i) n) ∷ (NumbersUsedUp, nat_lt LAST_NUMBER (line-count f new K H same i + 1)) ∷ []
   checks-same o (Page p) = λ i. (UnknownPatron, not (is_some (same.patron_facts p i))) ∷ []
   checks-same o (Ask q) = asked-same q
 

@@ -6,15 +6,17 @@ use Rattle.std.proofs.lemmas.Bool.{eqb-true, eq-eqb}
 use Rattle.std.proofs.lemmas.List.{length-map, map-append}
 use Rattle.terms.specs.declared.command.Command.{Command}
 use Rattle.terms.specs.declared.command.Command.TheVariants.{Acquire, Rehome, CheckOut, CheckIn, PlaceHold, CancelHold, Unshelve, UnshelveCancelled, Missing, Withdraw}
-use Rattle.terms.specs.declared.command.Command.TheVariants.{Pay, Waive}
+use Rattle.terms.specs.declared.command.Command.TheVariants.{Pay, Waive, Charge, PayAt}
 use Rattle.terms.specs.declared.row.HoldState.{HoldState}
 use Rattle.terms.specs.declared.row.HoldState.TheVariants.{Waiting, Filled, Cancelled, Expired}
 use Rattle.terms.specs.declared.row.Sort.{Sort}
-use Rattle.terms.specs.declared.row.Sort.TheVariants.{Fine, Price, Payment, Waiver}
+use Rattle.terms.specs.declared.row.Sort.TheVariants.{Fine, Price, Payment, Waiver, Charge as ChargeSort}
+use Rattle.terms.specs.declared.row.Thing.{Thing}
+use Rattle.terms.specs.declared.row.Thing.TheVariants as thing
 use Rattle.terms.specs.Money.{fine_for}
 use Rattle.model.specs.Calendar.{opens, least, late}
 use Rattle.model.specs.History.{History, numbers_to, today, week_of, singles_of, is_open, branch_of, kind_of, rule_of}
-use Rattle.model.specs.History.{patron_of, title_of, copy_of, copies, loans, HoldFacts, has_begun, hold_made, holds, hold_of}
+use Rattle.model.specs.History.{patron_of, title_of, copy_of, copies, loans, HoldFacts, has_begun, hold_made, holds, hold_of, barcode_of, thing_of}
 use Rattle.model.specs.Places.{Place, Shelf, HoldShelf, Transit, Loan, place, state, limit, is_begun, limit_now}
 use Rattle.model.specs.Places.{title_of_copy, home_of, title_of_hold, patron_of_hold, goal_of, first_day_of, is_kept_for, is_bound_for, is_waiting}
 use Rattle.model.specs.Places.{is_coming_by, line_by, route_to, route_from, route_by, kept_for_by, fills_first, fills_from, fills_by}
@@ -22,7 +24,7 @@ use Rattle.model.specs.Places.{place_let_go, place_rehomed, place_unshelved, pla
 use Rattle.model.specs.Places.{unshelved_to_by, limit_at, limit_after_by}
 use Rattle.model.specs.Loans.{LoanFacts, loan_of, terms_for, no_terms, grace_of, is_loan_of_copy, is_loan_of_patron, ended, is_open_loan, title_of_loan}
 use Rattle.model.specs.Loans.{first_due, renewed_due, due, renewals, renewals_left, open_loans, has_on_loan}
-use Rattle.model.specs.Accounts.{Line, posting, lines, lines_after, line_of, fine_line, price_line, price_of, fine_now, borrower, account_in, charge, credit, charges, credits, owed}
+use Rattle.model.specs.Accounts.{Note, Line, posting, lines, lines_after, noted_line, line_of, fine_line, price_line, price_of, fine_now, borrower, account_in, charge, credit, charges, credits, owed}
 use Rattle.model.specs.Renaming.{IsRenaming, renamed}
 
 -- ---- facts under new numbers
@@ -34,7 +36,11 @@ abbrev pub renamed_loan : (ℕ → ℕ) → LoanFacts → LoanFacts
 renamed_loan f r = record { copy = r.copy; patron = f r.patron; branch = r.branch; made = r.made; terms = r.terms }
 
 abbrev pub renamed_line : (ℕ → ℕ) → Line → Line
-renamed_line f x = record { patron = f x.patron; day = x.day; sort = x.sort; amount = x.amount; loan = x.loan }
+renamed_line f x = record { patron = f x.patron; day = x.day; sort = x.sort; amount = x.amount; loan = x.loan; note = x.note }
+
+abbrev pub renamed_thing : (ℕ → ℕ) → Thing → Thing
+renamed_thing f (thing.Patron p) = thing.Patron (f p)
+renamed_thing f (thing.Copy c) = thing.Copy c
 
 -- K is H with other numbers for patrons.
 pub record IsSame (f : ℕ → ℕ) (K H : History) : Type 0 where
@@ -58,6 +64,8 @@ pub record IsSame (f : ℕ → ℕ) (K H : History) : Type 0 where
   pub places : (c : ℕ) → place K c ≡ place H c
   pub states : (h : ℕ) → state K h ≡ state H h
   pub limits : (h : ℕ) → limit K h ≡ limit H h
+  pub labels : (t : Thing) → barcode_of K (renamed_thing f t) ≡ barcode_of H t
+  pub finds : (barcode : List ℕ) → thing_of K barcode ≡ option_map (renamed_thing f) (thing_of H barcode)
   pub line_list : lines K ≡ map (renamed_line f) (lines H)
 
 -- ---- functions of options and lists
@@ -360,13 +368,14 @@ module _ (f : ℕ → ℕ) (new : IsRenaming f) where
     price-same : (c : ℕ) → price_of K c ≡ price_of H c
     price-same c i = unwrap_or (option_map (λ r. r.price) (same.copy_facts c i)) 0
 
-    line-of : (p : ℕ) (s : Sort) (loan : Option ℕ) (n : ℕ) → line_of K (f p) s loan n ≡ map (renamed_line f) (line_of H p s loan n)
-    line-of p s loan zero = refl
-    line-of p s loan (suc n) = λ i. record { patron = f p; day = same.days i; sort = s; amount = suc n; loan = loan } ∷ []
+    line-of : (p : ℕ) (s : Sort) (loan : Option ℕ) (remark : Option Note) (n : ℕ)
+        → noted_line K (f p) s loan remark n ≡ map (renamed_line f) (noted_line H p s loan remark n)
+    line-of p s loan remark zero = refl
+    line-of p s loan remark (suc n) = λ i. record { patron = f p; day = same.days i; sort = s; amount = suc n; loan = loan; note = remark } ∷ []
 
     lent-line : (l : ℕ) (s : Sort) (n m : ℕ) → n ≡ m
         → line_of K (borrower K l) s (Some l) n ≡ map (renamed_line f) (line_of H (borrower H l) s (Some l) m)
-    lent-line l s n m e = (λ i. line_of K (borrower-same l i) s (Some l) (e i)) ∙ line-of (borrower H l) s (Some l) m
+    lent-line l s n m e = (λ i. line_of K (borrower-same l i) s (Some l) (e i)) ∙ line-of (borrower H l) s (Some l) None m
 
     fine-line : (p : Place) → fine_line K (grace_of K) p ≡ map (renamed_line f) (fine_line H (grace_of H) p)
     fine-line (Loan l) = lent-line l Fine (fine_now K (grace_of K) l) (fine_now H (grace_of H) l) (fine-same l)
@@ -392,8 +401,14 @@ module _ (f : ℕ → ℕ) (new : IsRenaming f) where
     pub lines-after : (x : Command) → lines_after K (posting (renamed f x)) (lines K) ≡ map (renamed_line f) (lines_after H (posting x) (lines H))
     lines-after (CheckIn c b) = added _ (fine_line H (grace_of H) (place H c)) (fined c)
     lines-after (Missing c) = added _ (fine_line H (grace_of H) (place H c) ++ price_line H c (place H c)) (lost c)
-    lines-after (Pay p n) = added _ (line_of H p Payment None n) (line-of p Payment None n)
-    lines-after (Waive p n) = added _ (line_of H p Waiver None n) (line-of p Waiver None n)
+    lines-after (Pay p n) = added _ (noted_line H p Payment None None n) (line-of p Payment None None n)
+    lines-after (Waive p n) = added _ (noted_line H p Waiver None None n) (line-of p Waiver None None n)
+    lines-after (PayAt p n b) =
+        let remark : Option Note = Some (record { branch = b; text = None }) in
+        added _ (noted_line H p Payment None remark n) (line-of p Payment None remark n)
+    lines-after (Charge p n b text) =
+        let remark : Option Note = Some (record { branch = b; text = Some text }) in
+        added _ (noted_line H p ChargeSort None remark n) (line-of p ChargeSort None remark n)
     lines-after _ = same.line_list
 
     -- How many lines a command adds is the same.

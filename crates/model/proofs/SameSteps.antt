@@ -1,19 +1,24 @@
 -- Renaming the patrons of a history keeps all else the same.
 use Rattle.std.proofs.Common.{◌≡◌, ℕ, ◌+◌, ◌==◌, Bool, true, false, cond, not, ◌&&◌, List, [], ◌∷◌, refl, ◌∙◌, ap}
-use Rattle.std.specs.Prelude.{Option, Some, None, is_none, option_map, unwrap_or, filter, if◌then◌else◌}
+use Rattle.std.specs.Prelude.{Option, Some, None, is_none, option_map, unwrap_or, filter, if◌then◌else◌, bytes_eq}
+use Rattle.terms.specs.declared.row.Thing.{Thing}
+use Rattle.terms.specs.declared.row.Thing.TheVariants as thing
+use Rattle.terms.specs.Pictures.{same_thing}
 use Rattle.std.specs.Option.{option_or}
 use Rattle.terms.specs.declared.command.Command.{Command}
 use Rattle.terms.specs.declared.command.Command.TheVariants.{BeginDay, Branch, Week, CloseDay, OpenDay, Kind, Rule, Grace, Patron, Acquire, CheckOut}
 use Rattle.terms.specs.declared.command.Command.TheVariants.{SetCardKey, AmendPatron, AmendBranch, AmendTitle, AmendCopy, Rehome, CheckIn, Renew, Missing}
+use Rattle.terms.specs.declared.command.Command.TheVariants.{CopyBarcode, PatronBarcode, DropBarcode}
 use Rattle.model.specs.History.{Event, History, today, today_after, week_after, singles_after, BranchFacts, with_pickup, branch_after, KindFacts, kind_after}
 use Rattle.model.specs.History.{Terms, with_grace, rule_after, PatronFacts, with_card_key, with_kind, patron_after, title_after}
-use Rattle.model.specs.History.{CopyFacts, with_price, with_home, copy_after, copies}
+use Rattle.model.specs.History.{CopyFacts, with_price, with_home, copy_after, copies, Labelling, Gives, Takes, NoLabelling, labelling}
+use Rattle.model.specs.History.{is_barcode_of, barcode_after, is_thing, thing_after, thing_of}
 use Rattle.model.specs.History.{copies_after, loans_after, next_loan, HoldFacts, hold_made, hold_of, hold_after, holds, holds_after, next_hold}
 use Rattle.model.specs.Places.{place, state, limit, is_begun, place_after, state_after, limit_after, limit_after_by}
 use Rattle.model.specs.Loans.{LoanFacts, loan_of, loan_after, terms_for, no_terms, is_loan_of_copy, ended, ended_after, due, due_after, renewed_due}
 use Rattle.model.specs.Loans.{renewals, renewals_after}
 use Rattle.model.specs.Renaming.{IsRenaming, renamed, renamed_event, renamed_history}
-use Rattle.model.proofs.SameFacts.{IsSame, renamed_hold, renamed_loan, made-same, same-eqb, terms-same, first-due, loan-of-copy, renewed-due}
+use Rattle.model.proofs.SameFacts.{IsSame, renamed_hold, renamed_loan, renamed_thing, made-same, same-eqb, terms-same, first-due, loan-of-copy, renewed-due}
 use Rattle.model.proofs.SameFacts.{begun-same, place-after, state-after, limit-after, lines-after}
 
 module _ (f : ℕ → ℕ) (new : IsRenaming f) where
@@ -80,6 +85,56 @@ module _ (f : ℕ → ℕ) (new : IsRenaming f) where
   renewals-step : (x : Command) (l u v : ℕ) → u ≡ v → renewals_after (renamed f x) l u ≡ renewals_after x l v
   renewals-step (Renew n) l u v e = λ i. if n == l then e i + 1 else e i
   renewals-step _ l u v e = e
+
+  -- ---- barcodes
+
+  abbrev renamed_labelling : Labelling → Labelling
+  renamed_labelling (Gives t barcode) = Gives (renamed_thing f t) barcode
+  renamed_labelling (Takes barcode) = Takes barcode
+  renamed_labelling NoLabelling = NoLabelling
+
+  labelled : (x : Command) → labelling (renamed f x) ≡ renamed_labelling (labelling x)
+  labelled (CopyBarcode c barcode) = refl
+  labelled (PatronBarcode p barcode) = refl
+  labelled (DropBarcode barcode) = refl
+  labelled _ = refl
+
+  pub same-thing : (t u : Thing) → same_thing (renamed_thing f t) (renamed_thing f u) ≡ same_thing t u
+  same-thing (thing.Patron p) (thing.Patron q) = same-eqb f new p q
+  same-thing (thing.Patron p) (thing.Copy d) = refl
+  same-thing (thing.Copy c) (thing.Patron q) = refl
+  same-thing (thing.Copy c) (thing.Copy d) = refl
+
+  label-as : (x : Labelling) (t : Thing) (u v : Option (List ℕ)) → u ≡ v → barcode_after (renamed_labelling x) (renamed_thing f t) u ≡ barcode_after x t v
+  label-as (Gives y barcode) t u v e = λ i. if same-thing y t i then Some barcode else e i
+  label-as (Takes barcode) t u v e = λ i. if is_barcode_of barcode (e i) then None else e i
+  label-as NoLabelling t u v e = e
+
+  label-step : (x : Command) (t : Thing) (u v : Option (List ℕ)) → u ≡ v
+      → barcode_after (labelling (renamed f x)) (renamed_thing f t) u ≡ barcode_after (labelling x) t v
+  label-step x t u v e = ap (λ y. barcode_after y (renamed_thing f t) u) (labelled x) ∙ label-as (labelling x) t u v e
+
+  is-thing : (t : Thing) (v : Option Thing) → is_thing (renamed_thing f t) (option_map (renamed_thing f) v) ≡ is_thing t v
+  is-thing t None = refl
+  is-thing t (Some u) = same-thing t u
+
+  cond-map : (b : Bool) (t : Option Thing) (u : Option Thing)
+      → cond b (option_map (renamed_thing f) t) (option_map (renamed_thing f) u) ≡ option_map (renamed_thing f) (cond b t u)
+  cond-map true t u = refl
+  cond-map false t u = refl
+
+  find-as : (x : Labelling) (barcode : List ℕ) (v : Option Thing)
+      → thing_after (renamed_labelling x) barcode (option_map (renamed_thing f) v) ≡ option_map (renamed_thing f) (thing_after x barcode v)
+  find-as (Gives y given) barcode v =
+      (λ i. cond (bytes_eq given barcode) (Some (renamed_thing f y)) (cond (is-thing y v i) None (option_map (renamed_thing f) v)))
+      ∙ ap (λ o. cond (bytes_eq given barcode) (Some (renamed_thing f y)) o) (cond-map (is_thing y v) None v)
+      ∙ cond-map (bytes_eq given barcode) (Some y) (cond (is_thing y v) None v)
+  find-as (Takes taken) barcode v = cond-map (bytes_eq taken barcode) None v
+  find-as NoLabelling barcode v = refl
+
+  find-step : (x : Command) (barcode : List ℕ) (u v : Option Thing) → u ≡ option_map (renamed_thing f) v
+      → thing_after (labelling (renamed f x)) barcode u ≡ option_map (renamed_thing f) (thing_after (labelling x) barcode v)
+  find-step x barcode u v e = (λ i. thing_after (labelled x i) barcode (e i)) ∙ find-as (labelling x) barcode v
 
   -- ---- what depends on more
 
@@ -178,6 +233,8 @@ module _ (f : ℕ → ℕ) (new : IsRenaming f) where
       places = place-step e.command;
       states = state-step e.command;
       limits = limit-step e.command;
+      labels = λ t. label-step e.command t _ _ (same.labels t);
+      finds = λ barcode. find-step e.command barcode _ (thing_of H barcode) (same.finds barcode);
       line_list = lines-after f new K H same e.command;
     }
 
@@ -203,6 +260,8 @@ module _ (f : ℕ → ℕ) (new : IsRenaming f) where
     places = λ c. refl;
     states = λ h. refl;
     limits = λ h. refl;
+    labels = λ t. refl;
+    finds = λ barcode. refl;
     line_list = refl;
   }
   same-renamed (e ∷ H) = same-step (renamed_history f H) H (same-renamed H) e

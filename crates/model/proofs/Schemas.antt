@@ -1,26 +1,29 @@
 -- Lists that were legal with an older schema still are, and its tables are migrated to the next, with every
 -- rule, loan and hold unchanged.
-use Rattle.std.proofs.Common.{◌≡◌, ℕ, ◌*◌, ◌≤◌, ◌==◌, ◌&&◌, nat_le, Bool, true, false, cond, List, [], ◌∷◌, refl, sym, ◌∙◌, ap, arith, subst}
+use Rattle.std.proofs.Common.{◌≡◌, ℕ, ◌*◌, ◌≤◌, ◌==◌, ◌&&◌, nat_le, Bool, true, false, cond, List, [], ◌∷◌, ◌++◌, refl, sym, ◌∙◌, ap, arith, subst}
 use Rattle.std.specs.Prelude.{Option, Some, None, option_map, option_and_then, unwrap_or, IsTrue, min}
 use Rattle.std.proofs.lemmas.Bool.{leb-true}
 use Rattle.terms.specs.declared.command.Command.{Command}
-use Rattle.terms.specs.declared.command.Command.TheVariants.{Rule, Grace, CheckOut, PlaceHold}
+use Rattle.terms.specs.declared.command.Command.TheVariants.{Rule, Grace, CheckOut, PlaceHold, CheckIn, Missing, Pay, Waive}
+use Rattle.terms.specs.declared.command.Command.TheVariants.{CopyBarcode, PatronBarcode, Charge, PayAt}
+use Rattle.terms.specs.declared.row.Sort.TheVariants.{Payment, Waiver}
+use Rattle.terms.specs.declared.row.Thing.{Thing}
 use Rattle.terms.specs.declared.row.RuleRow1.{RuleRow1}
 use Rattle.terms.specs.declared.row.LoanRow1.{LoanRow1}
 use Rattle.terms.specs.declared.row.HoldRow1.{HoldRow1}
 use Rattle.terms.specs.declared.row.HoldState.{HoldState}
 use Rattle.terms.specs.Limits.{InLimits, IsRule1, IsLoan1, IsHold1}
-use Rattle.terms.specs.Schemas.{IsOfSchema1, IsOfSchema2, carried, carried_rule, carried_loan, led_to_2, led_to_3}
+use Rattle.terms.specs.Schemas.{IsOfSchema1, IsOfSchema2, IsOfSchema3, carried, carried_rule, carried_loan, led_to_2, led_to_3, led_to_4}
 use Rattle.model.specs.History.{Event, History, Terms, rule_of, rule_after, PatronFacts, patron_of, CopyFacts, copy_of, next_loan}
-use Rattle.model.specs.History.{HoldFacts, has_begun, hold_made, hold_of, hold_after, next_hold, today}
+use Rattle.model.specs.History.{HoldFacts, has_begun, hold_made, hold_of, hold_after, next_hold, today, labelling, barcode_after, barcode_of}
 use Rattle.model.specs.Places.{place, place_after, state, state_after, kept_for, limit, limit_after_by, first_day_of, is_begun}
 use Rattle.model.specs.Loans.{LoanFacts, loan_of, loan_after, terms_for, no_terms, grace_of}
-use Rattle.model.specs.Picture.{picture, rule_row, rule_columns, loan_row, loan_columns, hold_row, hold_with, hold_by}
+use Rattle.model.specs.Picture.{picture, rule_row, rule_columns, loan_row, loan_columns, hold_row, hold_with, hold_by, note_row}
 use Rattle.model.specs.Schemas.{AreOf, kept_of_by, IsLegalBy, OldListsStand, is_of_schema_2, AreOfSchema2, IsLegal2, no_grace}
 use Rattle.model.specs.Schemas.{FinesWithoutGrace, lines2, sight2, is_of_schema_1, AreOfSchema1, begun_at_once, place1, state1, limit1}
 use Rattle.model.specs.Schemas.{lines1, sight1, Schema1IsWithinSchema2, rule1_columns, loan1_columns, hold1_columns, picture1, picture2}
-use Rattle.model.specs.Schemas.{OldTablesAreLed}
-use Rattle.model.specs.Accounts.{posting, lines, lines_then}
+use Rattle.model.specs.Schemas.{OldTablesAreLed, is_of_schema_3, AreOfSchema3, IsLegal3, sight3, picture3, Schema2IsWithinSchema3}
+use Rattle.model.specs.Accounts.{posting, lines, lines_then, lines_after, line_of, fine_line, price_line}
 use Rattle.model.specs.Sights.{Sight, sight}
 use Rattle.model.specs.Checks.{first_failing}
 use Rattle.model.specs.Refusals.{checks_by}
@@ -29,6 +32,7 @@ use Rattle.model.specs.Requests.{kept_after, kept_of, IsAcceptedBy, IsAccepted, 
 use Rattle.terms.specs.declared.command.Owner.{Owner}
 use Rattle.model.proofs.ClaimsLaw.{map-some}
 use Rattle.model.proofs.SettingRanges.{none-some, set-if}
+use Rattle.model.proofs.Unnoted.{AreUnnoted, unnoted-append, unnoted-line, unnoted-fine, unnoted-price, no-note-in}
 
 -- ---- lists that show what they showed stand
 
@@ -83,6 +87,16 @@ module _ (is_of : Command → Bool) (sight_of : History → Sight) (same : (H : 
         kept = kept-same H old;
         answers = λ o c. ap (λ s. answer_by H s o c) (same H old);
       }
+
+-- ---- lists of schema 3
+
+-- A list that was legal with schema 3 is legal, with the same answers.
+pub stands-3 : OldListsStand is_of_schema_3 sight3
+stands-3 = lists-stand is_of_schema_3 sight3 (λ H old. refl)
+
+-- A legal list of commands of schema 3 was legal with it.
+pub legal-3 : (H : History) → AreOfSchema3 H → IsLegal H → IsLegal3 H
+legal-3 = legal-back is_of_schema_3 sight3 (λ H old. refl)
 
 -- ---- no loan of schema 2 has grace days
 
@@ -167,8 +181,16 @@ fines-without-grace days rate most = go (nat_le days 0) refl
 -- ---- lists of schema 1
 
 within-by : (x : Command) → IsTrue (is_of_schema_1 x) → IsTrue (is_of_schema_2 x)
-within-by (Grace k c days) old = old
-within-by _ old = refl
+within-by (PlaceHold p t b d) old = refl
+within-by _ old = old
+
+within-3-by : (x : Command) → IsTrue (is_of_schema_2 x) → IsTrue (is_of_schema_3 x)
+within-3-by (Grace k c days) old = refl
+within-3-by _ old = old
+
+pub within-schema-3 : Schema2IsWithinSchema3
+within-schema-3 [] old = tt
+within-schema-3 (e ∷ H) old = (within-3-by e.command old.0, within-schema-3 H old.1)
 
 pub within-schema-2 : Schema1IsWithinSchema2
 within-schema-2 [] old = tt
@@ -230,10 +252,71 @@ sight1-same H old =
 pub stands-1 : OldListsStand is_of_schema_1 sight1
 stands-1 = lists-stand is_of_schema_1 sight1 sight1-same
 
+-- ---- tables of schema 3 are led
+
+-- With the commands of schema 3 nothing has a barcode.
+no-barcode-by : (x : Command) (t : Thing) → IsTrue (is_of_schema_3 x) → barcode_after (labelling x) t None ≡ None
+no-barcode-by (CopyBarcode c barcode) t old = let never : ⊥ = cc in absurd never
+no-barcode-by (PatronBarcode p barcode) t old = let never : ⊥ = cc in absurd never
+no-barcode-by _ t old = refl
+
+no-barcode : (H : History) → AreOfSchema3 H → (t : Thing) → barcode_of H t ≡ None
+no-barcode [] old t = refl
+no-barcode (e ∷ H) old t = ap (barcode_after (labelling e.command) t) (no-barcode H old.1 t) ∙ no-barcode-by e.command t old.0
+
+unnoted-by : (H : History) (x : Command) → IsTrue (is_of_schema_3 x) → AreUnnoted (lines H) → AreUnnoted (lines_after H (posting x) (lines H))
+unnoted-by H (CheckIn c b) old was = unnoted-append (lines H) (fine_line H (grace_of H) (place H c)) was (unnoted-fine H (place H c))
+unnoted-by H (Missing c) old was = unnoted-append (lines H) (fine_line H (grace_of H) (place H c) ++ price_line H c (place H c)) was
+    (unnoted-append (fine_line H (grace_of H) (place H c)) (price_line H c (place H c)) (unnoted-fine H (place H c)) (unnoted-price H c (place H c)))
+unnoted-by H (Pay p n) old was = unnoted-append (lines H) (line_of H p Payment None n) was (unnoted-line H p Payment None n)
+unnoted-by H (Waive p n) old was = unnoted-append (lines H) (line_of H p Waiver None n) was (unnoted-line H p Waiver None n)
+unnoted-by H (Charge p n b text) old was = let never : ⊥ = cc in absurd never
+unnoted-by H (PayAt p n b) old was = let never : ⊥ = cc in absurd never
+unnoted-by H _ old was = was
+
+unnoted : (H : History) → AreOfSchema3 H → AreUnnoted (lines H)
+unnoted [] old = tt
+unnoted (e ∷ H) old = unnoted-by H e.command old.0 (unnoted H old.1)
+
+no-note : (H : History) → AreOfSchema3 H → (n : ℕ) → note_row H n ≡ None
+no-note H old n = no-note-in H (lines H) n n (unnoted H old)
+
+pub of_schema_3 : (H : History) → IsOfSchema3 (picture3 H)
+of_schema_3 H = record { names = refl; later_labels = record { barcodes = λ t. refl; notes = λ n. refl } }
+
+pub led-3 : (H : History) → AreOfSchema3 H → led_to_4 (picture3 H) ≡ picture H
+led-3 H old = λ i. record (picture H) {
+  barcodes = λ t. option_map (λ x. record { thing = t; barcode = x }) (sym (no-barcode H old t) i);
+  notes = λ n. sym (no-note H old n) i;
+}
+
+-- The tables of schema 3 keep to the limits that those of the newest schema keep to.
+pub limits3 : (H : History) → InLimits (picture H) → InLimits (picture3 H)
+limits3 H within = record {
+  meta = (omega arith, within.meta.1, within.meta.2, within.meta.3, within.meta.4);
+  branches = within.branches;
+  closed_days = within.closed_days;
+  kinds = within.kinds;
+  rules = within.rules;
+  rules1 = within.rules1;
+  patrons = within.patrons;
+  titles = within.titles;
+  copies = within.copies;
+  loans = within.loans;
+  loans1 = within.loans1;
+  holds = within.holds;
+  holds1 = within.holds1;
+  transits = within.transits;
+  lines = within.lines;
+  kept = within.kept;
+  barcodes = λ t r e. absurd (none-some r e);
+  notes = λ n r e. absurd (none-some r e);
+}
+
 -- ---- tables of schema 2 are led
 
 pub of_schema_2 : (H : History) → IsOfSchema2 (picture2 H)
-of_schema_2 H = record { names = refl; later_rules = λ k c. refl; later_loans = λ l. refl }
+of_schema_2 H = record { names = refl; later_rules = λ k c. refl; later_loans = λ l. refl; later_labels = record { barcodes = λ t. refl; notes = λ n. refl } }
 
 -- A rule and a loan have all that they had, and still no grace days.
 rule-back : (H : History) (k c : ℕ) (y : Option Terms) → ((t : Terms) → y ≡ Some t → t.grace ≡ 0)
@@ -246,27 +329,27 @@ loan-back : (H : History) (l : ℕ) (y : Option LoanFacts) → ((r : LoanFacts) 
 loan-back H l (Some r) none = λ i. Some (record (loan_columns H l r) { grace = sym (none r refl) i })
 loan-back H l None none = refl
 
-pub led-2 : (H : History) → AreOfSchema2 H → led_to_3 (picture2 H) ≡ picture H
-led-2 H old = λ i. record (picture H) {
+pub led-2 : (H : History) → AreOfSchema2 H → led_to_3 (picture2 H) ≡ picture3 H
+led-2 H old = λ i. record (picture3 H) {
   rules = λ k c. rule-back H k c (rule_of H k c) (rule-plain H old k c) i;
   loans = λ l. loan-back H l (loan_of H l) (loan-plain H old l) i;
 }
 
-rules1-in : (H : History) → InLimits (picture H) → (k c : ℕ) (r : RuleRow1) → (picture2 H).rules1 k c ≡ Some r → (r.kind ≡ k) × (r.copy_kind ≡ c) × IsRule1 r
+rules1-in : (H : History) → InLimits (picture3 H) → (k c : ℕ) (r : RuleRow1) → (picture2 H).rules1 k c ≡ Some r → (r.kind ≡ k) × (r.copy_kind ≡ c) × IsRule1 r
 rules1-in H within k c r e =
     let m = map-some rule1_columns (rule_row H k c) r e in
     let f = within.rules k c m.0 m.1 in
     subst (λ q. (q.kind ≡ k) × (q.copy_kind ≡ c) × IsRule1 q) m.2 (f.0, f.1, (f.2.0, f.2.1, f.2.2, f.2.3, f.2.4, f.2.5))
 
-loans1-in : (H : History) → InLimits (picture H) → (l : ℕ) (r : LoanRow1) → (picture2 H).loans1 l ≡ Some r → (r.loan ≡ l) × IsLoan1 r
+loans1-in : (H : History) → InLimits (picture3 H) → (l : ℕ) (r : LoanRow1) → (picture2 H).loans1 l ≡ Some r → (r.loan ≡ l) × IsLoan1 r
 loans1-in H within l r e =
     let m = map-some loan1_columns (loan_row H l) r e in
     let f = within.loans l m.0 m.1 in
     let i = f.1 in
     subst (λ q. (q.loan ≡ l) × IsLoan1 q) m.2 (f.0, (i.0, i.1, i.2, i.3, i.4, i.5, i.6, i.7, i.8, i.9, i.10))
 
--- The tables of schema 2 keep to the limits that those of the newest schema keep to.
-pub limits2 : (H : History) → InLimits (picture H) → InLimits (picture2 H)
+-- The tables of schema 2 keep to the limits that those of schema 3 keep to.
+pub limits2 : (H : History) → InLimits (picture3 H) → InLimits (picture2 H)
 limits2 H within = record {
   meta = (omega arith, within.meta.1, within.meta.2, within.meta.3, within.meta.4);
   branches = within.branches;
@@ -284,12 +367,20 @@ limits2 H within = record {
   transits = within.transits;
   lines = within.lines;
   kept = within.kept;
+  barcodes = within.barcodes;
+  notes = within.notes;
 }
 
 -- ---- tables of schema 1 are led
 
 pub of_schema_1 : (H : History) → IsOfSchema1 (picture1 H)
-of_schema_1 H = record { names = refl; later = λ h. refl; later_rules = λ k c. refl; later_loans = λ l. refl }
+of_schema_1 H = record {
+  names = refl;
+  later = λ h. refl;
+  later_rules = λ k c. refl;
+  later_loans = λ l. refl;
+  later_labels = record { barcodes = λ t. refl; notes = λ n. refl };
+}
 
 -- A hold has all that it had, and still no first day.
 carried-back : (h : ℕ) (facts : Option HoldFacts) (s : Option HoldState) (kept until : Option ℕ) → option_and_then (λ r. r.first_day) facts ≡ None
@@ -326,10 +417,13 @@ limits1 H within = record {
   transits = within.transits;
   lines = within.lines;
   kept = within.kept;
+  barcodes = within.barcodes;
+  notes = within.notes;
 }
 
 pub tables-led : OldTablesAreLed
 tables-led H = (
   λ old. (of_schema_1 H, record { led = led-1 H old; limits = limits1 H; closed_days = λ few. few }),
   λ old. (of_schema_2 H, record { led = led-2 H old; limits = limits2 H; closed_days = λ few. few }),
+  λ old. (of_schema_3 H, record { led = led-3 H old; limits = limits3 H; closed_days = λ few. few }),
 )

@@ -1,6 +1,6 @@
 -- The lists of settings show exactly the rows of their tables, with the columns that these have.
 use Rattle.std.proofs.Common.{◌≡◌, ℕ, ◌<◌, ◌==◌, Bool, true, false, cond, ◌&&◌, ◌||◌, List, [], ◌∷◌, refl, sym, ◌∙◌, ap, nat_lt}
-use Rattle.std.specs.Prelude.{◌↔◌, Option, Some, None, is_some, option_map, unwrap_or, filter}
+use Rattle.std.specs.Prelude.{◌↔◌, Option, Some, None, is_some, option_map, unwrap_or}
 use Rattle.std.specs.Option.{option_or}
 use Rattle.std.proofs.lemmas.Bool.{ltb-true, lt-ltb}
 use Rattle.terms.specs.declared.command.Command.{Command}

@@ -25,21 +25,21 @@ use Rattle.model.specs.History.{patron_of, title_of, patrons, loans, HoldFacts, 
 use Rattle.model.specs.Places.{Place, Nowhere, Shelf, HoldShelf, Transit, Loan, MissingCopy, WithdrawnCopy, place, state, line}
 use Rattle.model.specs.Places.{is_waiting, patron_of_hold, is_ready, is_bound_for, is_coming, title_of_copy, title_of_hold, goal_of, home_of}
 use Rattle.model.specs.Loans.{LoanFacts, is_loan_of_copy, is_loan_of_patron, open_loans, loan_of, due, ended, is_open_loan}
-use Rattle.model.specs.Accounts.{Line, lines, nth_line, owed, charges, credits}
-use Rattle.model.specs.Asking.{rising, first_of, is_first, is_shelf_of, is_bound_to, pulled_for, is_line_of, missing_copies_list, loans_list}
+use Rattle.model.specs.Accounts.{Note, Line, lines, nth_line, owed, charges, credits}
+use Rattle.model.specs.Asking.{rising, first_of, is_first, is_shelf_of, is_bound_to, pulled_for, is_line_of, missing_copies_list}
 use Rattle.model.specs.AskingLaws.{AreRising}
-use Rattle.model.specs.Reports.{lending_branch, is_sort, till_sum}
+use Rattle.model.specs.Reports.{lending_branch, is_sort, is_made_at, till_sum, till_sum_at}
 use Rattle.model.specs.Pages.{spaced, title_text}
-use Rattle.model.specs.Picture.{picture, condition_at, transit_at, copy_columns, loan_columns, hold_columns, line_columns, patron_columns}
+use Rattle.model.specs.Picture.{picture, condition_at, transit_at, copy_columns, loan_columns, hold_columns, line_columns, note_columns, note_row, patron_columns}
 use Rattle.model.specs.Invariant.{Invariant}
 use Rattle.model.specs.Requests.{IsLegal}
 use Rattle.model.specs.Laws.{stands_in_line, is_active_state}
 use Rattle.model.specs.RowLaws.{IsOpenLoanOf, IsActiveHoldOf, IsMissing, IsLoanOfCopy, missing_copy_words, loan_row_words}
 use Rattle.model.specs.Refusals.{is_active, is_missing, active_holds}
 use Rattle.model.specs.RowLaws.{IsCopyOf, IsInLineOf, IsLineOf, IsOwing, IsOverdueAt, IsReadyAt, IsBoundTo, IsFirstInLine, IsOnShelf}
-use Rattle.model.specs.RowLaws.{IsToPull, if_row, line_rows_below, sum_of_rows, ShowsRows, RowsAreShown}
+use Rattle.model.specs.RowLaws.{IsToPull, if_row, line_rows_below, sum_of_rows, is_noted_at, sum_of_rows_at, ShowsRows, RowsAreShown}
 use Rattle.model.proofs.Amending.{amended-is_some}
-use Rattle.model.proofs.Members.{has, filter-among, filter-passes, filter-has, numbers-has, or-left, or-right}
+use Rattle.model.proofs.Members.{has, filter-among, filter-passes, filter-has, numbers-has, or-left}
 use Rattle.model.proofs.Bindings.{listed, clash, ready-is}
 use Rattle.model.proofs.Line.{in-line, line-in}
 use Rattle.model.proofs.Debts.{rising-has, enrolled-has}
@@ -589,6 +589,51 @@ module _ (H : History) (legal : IsLegal H) where
         let next : length (lines H) + 1 ≡ suc (length (lines H)) = omega arith in
         sym (ap (λ n. sum-rows (line_rows_below (picture H) n)) next ∙ rows-below (length (lines H)) (omega arith) ∙ ap sum-lines (take-whole (lines H)))
 
+  module _ (b d : ℕ) (s : Sort) where
+    abbrev sum-lines-at : List Line → ℕ
+    sum-lines-at xs = sum_by (λ x. x.amount) (filter (λ x. (x.day == d) && (is_sort x.sort s && is_made_at b x.note)) xs)
+
+    abbrev sum-rows-at : List LineRow → ℕ
+    sum-rows-at xs = sum_by (λ x. x.amount) (filter (λ x. (x.day == d) && (is_sort x.sort s && is_noted_at b (note_row H x.line))) xs)
+
+    lines-append-at : (xs ys : List Line) → sum-lines-at (xs ++ ys) ≡ sum-lines-at xs + sum-lines-at ys
+    lines-append-at xs ys = ap (sum_by (λ x. x.amount)) (filter-append _ xs ys) ∙ sum_by-append (λ x. x.amount) (filter _ xs) (filter _ ys)
+
+    rows-append-at : (xs ys : List LineRow) → sum-rows-at (xs ++ ys) ≡ sum-rows-at xs + sum-rows-at ys
+    rows-append-at xs ys = ap (sum_by (λ x. x.amount)) (filter-append _ xs ys) ∙ sum_by-append (λ x. x.amount) (filter _ xs) (filter _ ys)
+
+    -- The note of the line says where it was made.
+    noted-at : (n : ℕ) (x : Line) → nth_line (lines H) n ≡ Some x → is_noted_at b (note_row H n) ≡ is_made_at b x.note
+    noted-at n x at = ap (λ o. is_noted_at b (option_and_then (λ y. option_map (note_columns H n) y.note) o)) at ∙ go x.note
+      where
+        go : (remark : Option Note) → is_noted_at b (option_map (note_columns H n) remark) ≡ is_made_at b remark
+        go (Some k) = refl
+        go None = refl
+
+    one-row-at : (n : ℕ) (x : Line) → nth_line (lines H) n ≡ Some x → sum-rows-at (line_columns H n x ∷ []) ≡ sum-lines-at (x ∷ [])
+    one-row-at n x at =
+        ap (λ c. sum_by (λ (y : LineRow). y.amount) (cond ((x.day == d) && (is_sort x.sort s && c)) (line_columns H n x ∷ []) [])) (noted-at n x at)
+        ∙ go ((x.day == d) && (is_sort x.sort s && is_made_at b x.note))
+      where
+        go : (c : Bool) → sum_by (λ (y : LineRow). y.amount) (cond c (line_columns H n x ∷ []) []) ≡ sum_by (λ (y : Line). y.amount) (cond c (x ∷ []) [])
+        go true = refl
+        go false = refl
+
+    rows-below-at : (n : ℕ) → n ≤ length (lines H) → sum-rows-at (line_rows_below (picture H) (suc n)) ≡ sum-lines-at (take n (lines H))
+    rows-below-at zero le = ap (λ o. sum-rows-at (if_row (picture H) (option_map (line_columns H 0) o))) (nth-zero (lines H))
+    rows-below-at (suc k) le =
+        let x = line-at (lines H) k (omega (arith, le)) in
+        rows-append-at (line_rows_below (picture H) (suc k)) (if_row (picture H) ((picture H).lines (suc k)))
+        ∙ ap₂ (λ a c. a + c) (rows-below-at k (omega (arith, le)))
+        (ap (λ o. sum-rows-at (if_row (picture H) (option_map (line_columns H (suc k)) o))) x.1 ∙ one-row-at (suc k) x.0 x.1)
+        ∙ sym (ap sum-lines-at x.2 ∙ lines-append-at (take k (lines H)) (x.0 ∷ []))
+
+    till-at-shown : till_sum_at H b d s ≡ sum_of_rows_at (picture H) b d s
+    till-at-shown =
+        let next : length (lines H) + 1 ≡ suc (length (lines H)) = omega arith in
+        sym (ap (λ n. sum-rows-at (line_rows_below (picture H) n)) next ∙ rows-below-at (length (lines H)) (omega arith)
+        ∙ ap sum-lines-at (take-whole (lines H)))
+
   shows-rows : ShowsRows H (picture H)
   shows-rows = record {
     copies = λ t c. (copies-shown t c, copies-back t c);
@@ -606,6 +651,7 @@ module _ (H : History) (legal : IsLegal H) where
     page_loans = λ p l. ((λ e. page-loan p l (filter-passes (λ k. is_loan_of_patron H p k && is_open_loan H k) l (numbers_to (loans H)) e)), loan-page p l);
     page_holds = λ p h. ((λ e. page-hold p h (filter-passes (λ g. (patron_of_hold H g == p) && is_active H g) h (numbers_to (holds H)) e)), hold-page p h);
     till = till-shown;
+    till_at = till-at-shown;
     branches = branches-shown H;
     branch_rows = branch-told H;
     closed_days = closed-days-shown H;

@@ -1,15 +1,20 @@
--- Accounts: fines, prices, payments, waivers and debts. Money is in cents.
+-- Accounts: fines, prices, charges, payments, waivers and debts. Money is in cents.
 use Rattle.std.specs.Prelude.{ℕ, zero, suc, ◌+◌, ◌-◌, ◌==◌, List, [], ◌∷◌, ◌++◌, filter, sum_by, length, Option, Some, None, option_map, unwrap_or}
 use Rattle.terms.specs.declared.command.Command.{Command}
-use Rattle.terms.specs.declared.command.Command.TheVariants.{CheckIn, Missing, Pay, Waive}
+use Rattle.terms.specs.declared.command.Command.TheVariants.{CheckIn, Missing, Pay, Waive, Charge, PayAt}
 use Rattle.terms.specs.declared.row.Sort.{Sort}
-use Rattle.terms.specs.declared.row.Sort.TheVariants.{Fine, Price, Payment, Waiver}
+use Rattle.terms.specs.declared.row.Sort.TheVariants.{Fine, Price, Payment, Waiver, Charge as ChargeSort}
 use Rattle.terms.specs.Money.{fine_for}
 use Rattle.model.specs.Calendar.{late}
 use Rattle.model.specs.History.{History, today, is_open, copy_of}
 use Rattle.model.specs.Places.{Place, place}
 use Rattle.model.specs.Places.Place.{Loan}
 use Rattle.model.specs.Loans.{loan_of, due, grace_of}
+
+-- Where a line was made, and what a charge is for.
+pub record Note : Type 0 where
+  pub branch : ℕ
+  pub text : Option (List ℕ)
 
 -- One line of an account. Its number is its position among all patrons' lines.
 pub record Line : Type 0 where
@@ -18,6 +23,7 @@ pub record Line : Type 0 where
   pub sort : Sort
   pub amount : ℕ
   pub loan : Option ℕ
+  pub note : Option Note
 
 -- The fine of a loan that ends now: for the lending branch's open days after the due day, by the loan's own
 -- terms and these grace days.
@@ -34,10 +40,14 @@ fine_at H graces _ = 0
 abbrev pub price_of : History → ℕ → ℕ
 price_of H c = unwrap_or (option_map (λ r. r.price) (copy_of H c)) 0
 
--- One line dated today, or none if the amount is zero.
+-- One line dated today, with its note if it has one, or none if the amount is zero.
+abbrev pub noted_line : History → ℕ → Sort → Option ℕ → Option Note → ℕ → List Line
+noted_line H p sort loan x zero = []
+noted_line H p sort loan x (suc n) = record { patron = p; day = today H; sort = sort; amount = suc n; loan = loan; note = x } ∷ []
+
+-- The same without a note.
 abbrev pub line_of : History → ℕ → Sort → Option ℕ → ℕ → List Line
-line_of H p sort loan zero = []
-line_of H p sort loan (suc n) = record { patron = p; day = today H; sort = sort; amount = suc n; loan = loan } ∷ []
+line_of H p sort loan n = noted_line H p sort loan None n
 
 -- The patron of a loan.
 abbrev pub borrower : History → ℕ → ℕ
@@ -53,25 +63,29 @@ abbrev pub price_line : History → ℕ → Place → List Line
 price_line H c (Loan l) = line_of H (borrower H l) Price (Some l) (price_of H c)
 price_line H c _ = []
 
--- What a command posts to accounts: the cost of a returned or lost copy, or a settled part of a debt.
+-- What a command posts to accounts: the cost of a returned or lost copy, a settled part of a debt, or a charge.
 pub data Posting : Type 0 where
   Returned : ℕ → Posting
   Lost : ℕ → Posting
-  Settled : ℕ → Sort → ℕ → Posting
+  Settled : ℕ → Sort → Option Note → ℕ → Posting
+  Charged : ℕ → Note → ℕ → Posting
   NoPosting : Posting
 
 abbrev pub posting : Command → Posting
 posting (CheckIn c b) = Returned c
 posting (Missing c) = Lost c
-posting (Pay p n) = Settled p Payment n
-posting (Waive p n) = Settled p Waiver n
+posting (Pay p n) = Settled p Payment None n
+posting (Waive p n) = Settled p Waiver None n
+posting (PayAt p n b) = Settled p Payment (Some (record { branch = b; text = None })) n
+posting (Charge p n b text) = Charged p (record { branch = b; text = Some text }) n
 posting _ = NoPosting
 
 -- The lines of a posting, given the places of copies and the grace days of loans.
 abbrev pub lines_posted : History → (ℕ → Place) → (ℕ → ℕ) → Posting → List Line
 lines_posted H places graces (Returned c) = fine_line H graces (places c)
 lines_posted H places graces (Lost c) = fine_line H graces (places c) ++ price_line H c (places c)
-lines_posted H places graces (Settled p sort n) = line_of H p sort None n
+lines_posted H places graces (Settled p sort x n) = noted_line H p sort None x n
+lines_posted H places graces (Charged p x n) = noted_line H p ChargeSort None (Some x) n
 lines_posted H places graces NoPosting = []
 
 -- The lines that a command adds.
@@ -116,6 +130,7 @@ charge Fine n = n
 charge Price n = n
 charge Payment n = 0
 charge Waiver n = 0
+charge ChargeSort n = n
 
 -- What a line takes off the charges.
 abbrev pub credit : Sort → ℕ → ℕ
@@ -123,8 +138,9 @@ credit Fine n = 0
 credit Price n = 0
 credit Payment n = n
 credit Waiver n = n
+credit ChargeSort n = 0
 
--- Fines and prices.
+-- Fines, prices and charges of the desk.
 abbrev pub charges : List Line → ℕ
 charges xs = sum_by (λ x. charge x.sort x.amount) xs
 

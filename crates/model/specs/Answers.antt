@@ -1,8 +1,8 @@
 -- The answer to a command.
-use Rattle.std.specs.Prelude.{ℕ, ◌-◌, Some, None, unwrap_or}
+use Rattle.std.specs.Prelude.{ℕ, ◌+◌, ◌-◌, Some, None, unwrap_or}
 use Rattle.terms.specs.declared.command.Owner.{Owner}
 use Rattle.terms.specs.declared.command.Command.{Command}
-use Rattle.terms.specs.declared.command.Command.TheVariants.{CheckOut, CheckIn, Renew, PlaceHold, Unshelve, UnshelveCancelled, Missing, Pay, Waive, Page, Ask}
+use Rattle.terms.specs.declared.command.Command.TheVariants.{CheckOut, CheckIn, Renew, PlaceHold, Unshelve, UnshelveCancelled, Missing, Pay, Waive, Charge, PayAt, Page, Ask}
 use Rattle.terms.specs.declared.reply.Routed.{Routed}
 use Rattle.terms.specs.declared.reply.Routed.TheVariants.{Shelf as ToShelf, HoldShelf as ToHoldShelf, Transit as ToTransit}
 use Rattle.terms.specs.declared.reply.Reply.{Reply}
@@ -44,6 +44,8 @@ accepted_by H s (UnshelveCancelled h) = Moved (unshelved H s h)
 accepted_by H s (Missing c) = missed H s.grace c (s.place c)
 accepted_by H s (Pay p n) = Owed (owed_seen H s p - n)
 accepted_by H s (Waive p n) = Owed (owed_seen H s p - n)
+accepted_by H s (Charge p n b text) = Owed (owed_seen H s p + n)
+accepted_by H s (PayAt p n b) = Owed (owed_seen H s p - n)
 accepted_by H s (Page p) = Shown (page_by H s p)
 accepted_by H s (Ask question) = Shown (asked H question)
 accepted_by H s _ = Done

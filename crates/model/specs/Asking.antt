@@ -8,17 +8,19 @@ use Rattle.terms.specs.declared.limits.TheConstants.{MOST_ROWS, MOST_LOOKED_AT}
 use Rattle.terms.specs.declared.question.Question.{Question}
 use Rattle.terms.specs.declared.question.Question.TheVariants as question
 use Rattle.terms.specs.declared.row.Sort.{Sort}
-use Rattle.terms.specs.declared.row.Sort.TheVariants.{Fine, Price, Payment, Waiver}
+use Rattle.terms.specs.declared.row.Sort.TheVariants.{Fine, Price, Payment, Waiver, Charge}
+use Rattle.terms.specs.declared.row.Thing.{Thing}
+use Rattle.terms.specs.declared.row.Thing.TheVariants as thing
 use Rattle.terms.specs.Texts.{mask_text}
-use Rattle.model.specs.History.{History, numbers_to, today, week_of, singles_of, branch_of, kind_of, rule_of, copy_of, patron_of}
+use Rattle.model.specs.History.{History, numbers_to, today, week_of, singles_of, branch_of, kind_of, rule_of, copy_of, patron_of, barcode_of, thing_of}
 use Rattle.model.specs.History.{branches, kinds, ruled, copies, patrons, titles, loans, holds}
 use Rattle.model.specs.Places.{Place, Nowhere, Shelf, HoldShelf, Transit, Loan, MissingCopy, WithdrawnCopy, place, line, limit}
 use Rattle.model.specs.Places.{title_of_copy, home_of, title_of_hold, patron_of_hold, goal_of, first_day_of}
 use Rattle.model.specs.Loans.{loan_of, is_loan_of_copy, due, ended, title_of_loan}
-use Rattle.model.specs.Accounts.{lines, nth_line, borrower, price_of, owed}
+use Rattle.model.specs.Accounts.{Note, lines, nth_line, borrower, price_of, owed}
 use Rattle.model.specs.Pages.{spaced, name_of, title_text, title_words, patron_line}
 use Rattle.model.specs.Refusals.{is_missing}
-use Rattle.model.specs.Reports.{overdue_head, overdue_loans, overdue_line, shelf_head, ready_holds, shelf_line, till_rows}
+use Rattle.model.specs.Reports.{overdue_head, overdue_loans, overdue_line, shelf_head, ready_holds, shelf_line, till_rows, till_at_rows}
 
 -- ---- lists
 
@@ -136,6 +138,7 @@ sort_word Fine = codes "fine"
 sort_word Price = codes "price"
 sort_word Payment = codes "payment"
 sort_word Waiver = codes "waiver"
+sort_word Charge = codes "charge"
 
 -- The first day of a hold, if it has one.
 abbrev pub from_words : Option ℕ → List (List ℕ)
@@ -151,6 +154,27 @@ ended_words (Some day) = codes "ended" ∷ day_text day ∷ []
 abbrev pub for_words : Option ℕ → List (List ℕ)
 for_words None = []
 for_words (Some h) = codes "for" ∷ decimal h ∷ []
+
+-- What a charge is for, if the line is one.
+abbrev pub text_words : Option (List ℕ) → List (List ℕ)
+text_words None = []
+text_words (Some text) = codes "for" ∷ text ∷ []
+
+-- Where a line was made, and what for, if it has a note.
+abbrev pub note_words : Option Note → List (List ℕ)
+note_words None = []
+note_words (Some note) = codes "at" ∷ decimal note.branch ∷ text_words note.text
+
+-- The line of a barcode, if there is one.
+abbrev pub barcode_lines : Option (List ℕ) → List (List ℕ)
+barcode_lines None = []
+barcode_lines (Some barcode) = spaced (codes "barcode" ∷ barcode ∷ []) ∷ []
+
+-- The copy or the patron that has a barcode, if any.
+abbrev pub thing_words : Option Thing → List (List ℕ)
+thing_words None = []
+thing_words (Some (thing.Patron p)) = codes "patron" ∷ decimal p ∷ []
+thing_words (Some (thing.Copy c)) = codes "copy" ∷ decimal c ∷ []
 
 module _ (H : History) where
   -- The place of a copy.
@@ -219,7 +243,8 @@ module _ (H : History) where
 
   -- The n-th line of all accounts.
   abbrev pub account_line : ℕ → List ℕ
-  account_line n = unwrap_or (option_map (λ x. spaced (codes "line" ∷ decimal n ∷ day_text x.day ∷ sort_word x.sort ∷ decimal x.amount ∷ loan_words H x.loan))
+  account_line n = unwrap_or (option_map (λ x. spaced (codes "line" ∷ decimal n ∷ day_text x.day ∷ sort_word x.sort ∷ decimal x.amount
+      ∷ loan_words H x.loan ++ note_words x.note))
       (nth_line (lines H) n)) []
 
   -- The line is this patron's.
@@ -293,7 +318,7 @@ module _ (H : History) where
 
   -- A patron, and the kind.
   abbrev pub borrower_lines : ℕ → List (List ℕ)
-  borrower_lines p = patron_line H p ∷ spaced (codes "kind" ∷ decimal (kind_of_patron p) ∷ []) ∷ []
+  borrower_lines p = patron_line H p ∷ spaced (codes "kind" ∷ decimal (kind_of_patron p) ∷ []) ∷ barcode_lines (barcode_of H (thing.Patron p))
 
   -- The patrons whose names the text finds.
   abbrev pub patrons_search : List ℕ → Search
@@ -348,7 +373,7 @@ module _ (H : History) where
 
 -- What a question shows after a history.
 abbrev pub asked : History → Question → List ℕ
-asked H (question.Copy c) = join_with_byte 10 (copy_line H c ∷ place_line H (place H c) ∷ [])
+asked H (question.Copy c) = join_with_byte 10 (copy_line H c ∷ place_line H (place H c) ∷ barcode_lines (barcode_of H (thing.Copy c)))
 asked H (question.Copies t after) = listed (copies_list H t) after
 asked H (question.Queue t after) = listed (queue_list H t) after
 asked H (question.Account p after) = listed (account_list H p) after
@@ -368,3 +393,5 @@ asked H (question.Kinds after) = listed (kinds_list H) after
 asked H (question.Rules k after) = listed (rules_list H k) after
 asked H (question.MissingCopies after) = listed (missing_copies_list H) after
 asked H (question.Loans c after) = listed (loans_list H c) after
+asked H (question.FindBarcode barcode) = spaced (thing_words (thing_of H barcode))
+asked H (question.TillAt b d) = join_with_byte 10 (till_at_rows H b d)

@@ -152,7 +152,7 @@ PulledCopiesServe = (H : History) → ServesPulled H
 
 -- ---- who owes what
 
--- The debts list a patron exactly if the patron's fines and prices exceed the payments and waivers.
+-- The debts list a patron exactly if the patron's fines, prices and charges exceed the payments and waivers.
 abbrev pub ShowsDebts : History → Type 0
 ShowsDebts H = (p : ℕ) → has_number (debts_list H).numbers p ↔ (credits (account H p) < charges (account H p))
 

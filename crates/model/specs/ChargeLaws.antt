@@ -1,4 +1,4 @@
--- What each loan is charged: at most one fine and one price, when it ends.
+-- What each loan is charged: at most one fine and one price, when it ends; and what the desk charges.
 use Rattle.std.specs.Prelude.{◌≡◌, ℕ, ◌<◌, ◌==◌, Bool, true, false, not, ◌&&◌, [], ◌∷◌, filter, sum_by, Option, Some, None, option_map, unwrap_or}
 use Rattle.terms.specs.declared.command.Command.{Command}
 use Rattle.terms.specs.declared.command.Command.TheVariants.{Missing}
@@ -17,11 +17,11 @@ use Rattle.model.specs.Requests.{IsLegal}
 
 -- ---- whose charges
 
--- Fines and prices are charges.
-abbrev pub is_charge : Sort → Bool
-is_charge Fine = true
-is_charge Price = true
-is_charge _ = false
+-- Fines and prices are charges for loans.
+abbrev pub is_for_loan : Sort → Bool
+is_for_loan Fine = true
+is_for_loan Price = true
+is_for_loan _ = false
 
 -- The row is for a loan that has ended, made on the day of its end, for its borrower.
 pub record IsOfEndedLoan (T : Picture) (r : LineRow) : Type 0 where
@@ -32,12 +32,12 @@ pub record IsOfEndedLoan (T : Picture) (r : LineRow) : Type 0 where
   pub patron : r.patron ≡ row.patron
   pub day : row.ended ≡ Some r.day
 
--- Each charge is for an ended loan, to its borrower and of the day of its end, and it is the loan's only one
--- of its sort. Payments and waivers are for no loan, and no line has the amount zero.
+-- Each fine and each price is for an ended loan, to its borrower and of the day of its end, and it is the loan's
+-- only one of its sort. Every other line is for no loan, and no line has the amount zero.
 pub record HasFairCharges (T : Picture) : Type 0 where
-  pub whose : (n : ℕ) (r : LineRow) → T.lines n ≡ Some r → is_charge r.sort ≡ true → IsOfEndedLoan T r
-  pub once : (n m : ℕ) (r s : LineRow) → T.lines n ≡ Some r → T.lines m ≡ Some s → is_charge r.sort ≡ true → r.sort ≡ s.sort → r.loan ≡ s.loan → n ≡ m
-  pub settled : (n : ℕ) (r : LineRow) → T.lines n ≡ Some r → is_charge r.sort ≡ false → r.loan ≡ None
+  pub whose : (n : ℕ) (r : LineRow) → T.lines n ≡ Some r → is_for_loan r.sort ≡ true → IsOfEndedLoan T r
+  pub once : (n m : ℕ) (r s : LineRow) → T.lines n ≡ Some r → T.lines m ≡ Some s → is_for_loan r.sort ≡ true → r.sort ≡ s.sort → r.loan ≡ s.loan → n ≡ m
+  pub settled : (n : ℕ) (r : LineRow) → T.lines n ≡ Some r → is_for_loan r.sort ≡ false → r.loan ≡ None
   pub some_amount : (n : ℕ) (r : LineRow) → T.lines n ≡ Some r → 0 < r.amount
 
 -- ---- how much

@@ -1,11 +1,12 @@
 -- In which order the checks of a command are made, and which refusal is told where several fail.
-use Rattle.std.specs.Prelude.{◌≡◌, ℕ, Bool, true, false, List, [], ◌∷◌, ◌++◌, map, None, IfSome}
+use Rattle.std.specs.Prelude.{◌≡◌, ℕ, true, false, List, [], ◌∷◌, ◌++◌, map, None, IfSome}
 use Rattle.std.specs.List.{AllByRecursion}
 use Rattle.terms.specs.Texts.{refusal_number}
 use Rattle.terms.specs.declared.command.Owner.{Owner}
 use Rattle.terms.specs.declared.command.Command.{Command}
 use Rattle.terms.specs.declared.command.Command.TheVariants.{BeginDay, Branch, Week, CloseDay, OpenDay, Kind, Rule, Grace, Patron, Acquire}
 use Rattle.terms.specs.declared.command.Command.TheVariants.{SetCardKey, AmendPatron, AmendBranch, AmendTitle, AmendCopy, Rehome}
+use Rattle.terms.specs.declared.command.Command.TheVariants.{CopyBarcode, PatronBarcode, DropBarcode, Charge, PayAt}
 use Rattle.terms.specs.declared.command.Command.TheVariants.{CheckOut, CheckIn, Renew, PlaceHold, CancelHold, Unshelve, UnshelveCancelled}
 use Rattle.terms.specs.declared.command.Command.TheVariants.{Missing, Withdraw, Pay, Waive, Page, Ask}
 use Rattle.terms.specs.declared.question.Question.{Question}
@@ -37,6 +38,8 @@ refusals_asked (question.Kinds after) = []
 refusals_asked (question.Rules k after) = 17 ∷ []
 refusals_asked (question.MissingCopies after) = []
 refusals_asked (question.Loans c after) = 13 ∷ []
+refusals_asked (question.FindBarcode barcode) = 18 ∷ []
+refusals_asked (question.TillAt b d) = 10 ∷ []
 
 -- The numbers of the refusals that a command can get, in the order of their checks.
 abbrev pub refusals_in_order : Command → List ℕ
@@ -56,6 +59,9 @@ refusals_in_order (AmendBranch b pickup name) = 21 ∷ 10 ∷ []
 refusals_in_order (AmendTitle t text) = 12 ∷ []
 refusals_in_order (AmendCopy c k price) = 21 ∷ 13 ∷ []
 refusals_in_order (Rehome c b) = 10 ∷ 13 ∷ 35 ∷ []
+refusals_in_order (CopyBarcode c barcode) = 13 ∷ 26 ∷ []
+refusals_in_order (PatronBarcode p barcode) = 11 ∷ 26 ∷ []
+refusals_in_order (DropBarcode barcode) = 18 ∷ []
 refusals_in_order (CheckOut p c b) = 10 ∷ 11 ∷ 13 ∷ 35 ∷ 34 ∷ 31 ∷ 32 ∷ 30 ∷ 33 ∷ 36 ∷ 50 ∷ 16 ∷ 37 ∷ 38 ∷ 70 ∷ []
 refusals_in_order (CheckIn c b) = 10 ∷ 13 ∷ 35 ∷ 33 ∷ 70 ∷ []
 refusals_in_order (Renew l) = 14 ∷ 40 ∷ 41 ∷ 36 ∷ 42 ∷ 38 ∷ 39 ∷ []
@@ -67,6 +73,8 @@ refusals_in_order (Missing c) = 13 ∷ 35 ∷ 34 ∷ 70 ∷ []
 refusals_in_order (Withdraw c) = 13 ∷ 35 ∷ 31 ∷ 32 ∷ 33 ∷ []
 refusals_in_order (Pay p n) = 11 ∷ 60 ∷ 70 ∷ []
 refusals_in_order (Waive p n) = 11 ∷ 60 ∷ 70 ∷ []
+refusals_in_order (Charge p n b text) = 21 ∷ 11 ∷ 10 ∷ 60 ∷ 70 ∷ []
+refusals_in_order (PayAt p n b) = 11 ∷ 10 ∷ 60 ∷ 70 ∷ []
 refusals_in_order (Page p) = 11 ∷ []
 refusals_in_order (Ask question) = refusals_asked question
 

@@ -1,10 +1,10 @@
 -- Tables of checks, and the limits of numbers.
 use Rattle.std.specs.Prelude.{ℕ, nat_le, Bool, true, false, ◌&&◌, List, [], ◌∷◌, Option, Some, None}
 use Rattle.terms.specs.declared.limits.TheConstants.{LAST_SMALL_NUMBER, LAST_LARGE_NUMBER, LONGEST_PERIOD, LONGEST_PICKUP, MOST_RENEWALS}
-use Rattle.terms.specs.declared.limits.TheConstants.{MOST_GRACE, MOST_ALLOWED, HIGHEST_RATE, HIGHEST_CAP, HIGHEST_PRICE, HIGHEST_DEBT}
+use Rattle.terms.specs.declared.limits.TheConstants.{MOST_GRACE, MOST_ALLOWED, HIGHEST_RATE, HIGHEST_CAP, HIGHEST_PRICE, HIGHEST_DEBT, HIGHEST_CHARGE}
 use Rattle.terms.specs.declared.refusal.Refusal.{Refusal}
 use Rattle.terms.specs.declared.command.Command.{Command}
-use Rattle.terms.specs.declared.command.Command.TheVariants.{Branch, Kind, Rule, Grace, Patron, Acquire, AmendPatron, AmendBranch, AmendCopy}
+use Rattle.terms.specs.declared.command.Command.TheVariants.{Branch, Kind, Rule, Grace, Patron, Acquire, AmendPatron, AmendBranch, AmendCopy, Charge}
 
 -- A check: the refusal, and whether the check fails.
 abbrev pub Check : Type 0
@@ -43,4 +43,5 @@ is_within_limits (Acquire copy title kind home price text) =
 is_within_limits (AmendPatron patron kind name) = is_small_number kind
 is_within_limits (AmendBranch branch pickup name) = is_small_number branch && is_within 0 LONGEST_PICKUP pickup
 is_within_limits (AmendCopy copy kind price) = is_small_number kind && is_within 0 HIGHEST_PRICE price
+is_within_limits (Charge patron amount branch text) = is_within 0 HIGHEST_CHARGE amount
 is_within_limits _ = true

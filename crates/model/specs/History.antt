@@ -1,12 +1,16 @@
 -- The list of accepted events, newest first, and what its commands set.
 use Rattle.calendar.specs.declared.limits.TheConstants.{FIRST_DAY}
 use Rattle.std.specs.Prelude.{ℕ, zero, suc, ◌+◌, ◌==◌, nat_le, Bool, true, false, ◌&&◌, not, if◌then◌else◌, List, [], ◌∷◌, ◌++◌, filter}
-use Rattle.std.specs.Prelude.{Option, Some, None, is_none, option_map, replicate}
+use Rattle.std.specs.Prelude.{Option, Some, None, is_none, option_map, unwrap_or, replicate, bytes_eq}
 use Rattle.std.specs.Option.{option_or}
 use Rattle.terms.specs.declared.command.Owner.{Owner}
 use Rattle.terms.specs.declared.command.Command.{Command}
 use Rattle.terms.specs.declared.command.Command.TheVariants.{BeginDay, Branch, Week, CloseDay, OpenDay, Kind, Rule, Grace, Patron, Acquire, CheckOut, PlaceHold}
 use Rattle.terms.specs.declared.command.Command.TheVariants.{SetCardKey, AmendPatron, AmendBranch, AmendTitle, AmendCopy, Rehome}
+use Rattle.terms.specs.declared.command.Command.TheVariants.{CopyBarcode, PatronBarcode, DropBarcode}
+use Rattle.terms.specs.declared.row.Thing.{Thing}
+use Rattle.terms.specs.declared.row.Thing.TheVariants as thing
+use Rattle.terms.specs.Pictures.{same_thing}
 use Rattle.model.specs.Calendar.{opens}
 
 -- An accepted command that changes something, with its key and the key's owner.
@@ -254,6 +258,50 @@ patrons_after H _ before = before
 abbrev pub patrons : History → List ℕ
 patrons [] = []
 patrons (e ∷ H) = patrons_after H e.command (patrons H)
+
+-- ---- barcodes
+
+-- What a command does to barcodes: it gives a copy or a patron one, or takes one from whatever has it.
+pub data Labelling : Type 0 where
+  Gives : Thing → List ℕ → Labelling
+  Takes : List ℕ → Labelling
+  NoLabelling : Labelling
+
+abbrev pub labelling : Command → Labelling
+labelling (CopyBarcode c barcode) = Gives (thing.Copy c) barcode
+labelling (PatronBarcode p barcode) = Gives (thing.Patron p) barcode
+labelling (DropBarcode barcode) = Takes barcode
+labelling _ = NoLabelling
+
+-- The barcode, if any, is this one.
+abbrev pub is_barcode_of : List ℕ → Option (List ℕ) → Bool
+is_barcode_of barcode before = unwrap_or (option_map (λ x. bytes_eq x barcode) before) false
+
+-- A barcode that is given to a thing takes the place of the thing's old one. One that is taken is its no more.
+abbrev pub barcode_after : Labelling → Thing → Option (List ℕ) → Option (List ℕ)
+barcode_after (Gives u barcode) t before = if same_thing u t then Some barcode else before
+barcode_after (Takes barcode) t before = if is_barcode_of barcode before then None else before
+barcode_after NoLabelling t before = before
+
+-- The barcode of a copy or a patron: the last one given to it, unless that was taken since.
+abbrev pub barcode_of : History → Thing → Option (List ℕ)
+barcode_of [] t = None
+barcode_of (e ∷ H) t = barcode_after (labelling e.command) t (barcode_of H t)
+
+-- The thing, if any, is this one.
+abbrev pub is_thing : Thing → Option Thing → Bool
+is_thing u before = unwrap_or (option_map (λ t. same_thing u t) before) false
+
+-- A barcode is of the thing that it is given to, and nobody's once it is taken, or that thing gets another.
+abbrev pub thing_after : Labelling → List ℕ → Option Thing → Option Thing
+thing_after (Gives u given) barcode before = if bytes_eq given barcode then Some u else (if is_thing u before then None else before)
+thing_after (Takes taken) barcode before = if bytes_eq taken barcode then None else before
+thing_after NoLabelling barcode before = before
+
+-- The copy or the patron that has a barcode.
+abbrev pub thing_of : History → List ℕ → Option Thing
+thing_of [] barcode = None
+thing_of (e ∷ H) barcode = thing_after (labelling e.command) barcode (thing_of H barcode)
 
 -- ---- numbers given in order
 

@@ -25,6 +25,8 @@ pub mod AskingLaws
 pub mod TurnLaws
 pub mod RowLaws
 pub mod ChargeLaws
+pub mod LabelLaws
+pub mod CounterLaws
 pub mod Calendars
 pub mod Repeats
 pub mod Renaming

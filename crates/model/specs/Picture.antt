@@ -17,14 +17,17 @@ use Rattle.terms.specs.declared.row.HoldState.{HoldState}
 use Rattle.terms.specs.declared.row.TransitRow.{TransitRow}
 use Rattle.terms.specs.declared.row.LineRow.{LineRow}
 use Rattle.terms.specs.declared.row.KeptRow.{KeptRow}
+use Rattle.terms.specs.declared.row.Thing.{Thing}
+use Rattle.terms.specs.declared.row.BarcodeRow.{BarcodeRow}
+use Rattle.terms.specs.declared.row.NoteRow.{NoteRow}
 use Rattle.terms.specs.Texts.{reply_text}
 pub use Rattle.terms.specs.Pictures.{Picture}
 use Rattle.model.specs.Calendar.{is_single}
 use Rattle.model.specs.History.{History, today, week_of, singles_of, BranchFacts, branch_of, KindFacts, kind_of, Terms, rule_of}
-use Rattle.model.specs.History.{PatronFacts, patron_of, title_of, CopyFacts, copy_of, next_loan, next_hold, HoldFacts, hold_of}
+use Rattle.model.specs.History.{PatronFacts, patron_of, title_of, CopyFacts, copy_of, next_loan, next_hold, HoldFacts, hold_of, barcode_of}
 use Rattle.model.specs.Places.{Place, Transit, MissingCopy, WithdrawnCopy, place, state, is_ready, kept_for, limit}
 use Rattle.model.specs.Loans.{LoanFacts, loan_of, due, ended, renewals_left}
-use Rattle.model.specs.Accounts.{Line, lines, next_line, owed}
+use Rattle.model.specs.Accounts.{Note, Line, lines, next_line, owed}
 pub use Rattle.model.specs.Accounts.{nth_line}
 use Rattle.model.specs.Requests.{Kept, kept_of}
 
@@ -160,6 +163,18 @@ module _ (H : History) where
   abbrev pub line_row : ℕ → Option LineRow
   line_row n = option_map (line_columns n) (nth_line (lines H) n)
 
+  -- The columns of a note.
+  abbrev pub note_columns : ℕ → Note → NoteRow
+  note_columns n x = record { line = n; branch = x.branch; text = x.text }
+
+  -- The note of a line, if it has one.
+  abbrev pub note_row : ℕ → Option NoteRow
+  note_row n = option_and_then (λ x. option_map (note_columns n) x.note) (nth_line (lines H) n)
+
+  -- The row of the barcode of a copy or a patron, if it has one.
+  abbrev pub barcode_row : Thing → Option BarcodeRow
+  barcode_row t = option_map (λ x. record { thing = t; barcode = x }) (barcode_of H t)
+
   -- The columns of a kept request.
   abbrev pub kept_columns : Owner → List ℕ → Kept → KeptRow
   kept_columns o k x = record { caller = o; key = k; text = x.text; reply = reply_text x.reply }
@@ -188,4 +203,6 @@ module _ (H : History) where
     transits = transit_row;
     lines = line_row;
     kept = kept_row;
+    barcodes = barcode_row;
+    notes = note_row;
   }

@@ -10,9 +10,18 @@ use Rattle.terms.specs.declared.row.HoldRow.{HoldRow}
 use Rattle.terms.specs.declared.row.TransitRow.{TransitRow}
 use Rattle.terms.specs.declared.row.LineRow.{LineRow}
 use Rattle.terms.specs.declared.row.KeptRow.{KeptRow}
+use Rattle.terms.specs.declared.row.Thing.{Thing}
+use Rattle.terms.specs.declared.row.Thing.TheVariants as thing
+use Rattle.terms.specs.declared.row.BarcodeRow.{BarcodeRow}
+use Rattle.terms.specs.declared.row.NoteRow.{NoteRow}
 use Rattle.model.specs.History.{History}
 use Rattle.model.specs.Picture.{Picture, picture}
 use Rattle.model.specs.Requests.{IsLegal}
+
+-- The patron or the copy has a row.
+abbrev pub HasThing : Picture → Thing → Type 0
+HasThing T (thing.Patron p) = is_some (T.patrons p) ≡ true
+HasThing T (thing.Copy c) = is_some (T.copies c) ≡ true
 
 -- Each column that names a row of another table names an existing one.
 pub record HasReferences (T : Picture) : Type 0 where
@@ -60,6 +69,12 @@ pub record HasReferences (T : Picture) : Type 0 where
   -- The patron who sent a kept request, unless the desk did, exists.
   pub kept_caller : (o : Owner) (key : List ℕ) (p : ℕ) (r : KeptRow) → T.kept o key ≡ Some r
       → r.caller ≡ Reader p → is_some (T.patrons p) ≡ true
+  -- What a barcode is of exists.
+  pub barcode_thing : (t : Thing) (r : BarcodeRow) → T.barcodes t ≡ Some r → HasThing T r.thing
+  -- The line of a note exists.
+  pub note_line : (n : ℕ) (r : NoteRow) → T.notes n ≡ Some r → is_some (T.lines r.line) ≡ true
+  -- The branch of a note exists.
+  pub note_branch : (n : ℕ) (r : NoteRow) → T.notes n ≡ Some r → is_some (T.branches r.branch) ≡ true
 
 -- Every row that a legal history leaves names existing rows.
 abbrev pub References : Type 0

@@ -9,6 +9,7 @@ use Rattle.terms.specs.declared.command.Owner.TheVariants.{Desk, Patron as Reade
 use Rattle.terms.specs.declared.command.Command.{Command}
 use Rattle.terms.specs.declared.command.Command.TheVariants.{BeginDay, Branch, Week, CloseDay, OpenDay, Kind, Rule, Grace, Patron, Acquire}
 use Rattle.terms.specs.declared.command.Command.TheVariants.{SetCardKey, AmendPatron, AmendBranch, AmendTitle, AmendCopy, Rehome}
+use Rattle.terms.specs.declared.command.Command.TheVariants.{CopyBarcode, PatronBarcode, DropBarcode, Charge, PayAt}
 use Rattle.terms.specs.declared.command.Command.TheVariants.{CheckOut, CheckIn, Renew, PlaceHold, CancelHold, Unshelve, UnshelveCancelled}
 use Rattle.terms.specs.declared.command.Command.TheVariants.{Missing, Withdraw, Pay, Waive, Page, Ask}
 use Rattle.terms.specs.declared.question.Question.{Question}
@@ -20,9 +21,13 @@ use Rattle.terms.specs.declared.refusal.Refusal.TheVariants.{BadDay, AlreadyClos
 use Rattle.terms.specs.declared.refusal.Refusal.TheVariants.{CopyMissing, CopyWithdrawn, HoldWaits, TooManyLoans, OwesTooMuch, PastCalendar}
 use Rattle.terms.specs.declared.refusal.Refusal.TheVariants.{LoanEnded, Overdue, NoRenewalsLeft, AlreadyHolds, TooManyHolds, HasOnLoan}
 use Rattle.terms.specs.declared.refusal.Refusal.TheVariants.{WrongHoldState, LimitNotPassed, BadAmount, NumbersUsedUp}
+use Rattle.terms.specs.declared.refusal.Refusal.TheVariants.{UnknownBarcode, BarcodeTaken}
+use Rattle.terms.specs.declared.row.Thing.{Thing}
+use Rattle.terms.specs.declared.row.Thing.TheVariants as thing
+use Rattle.terms.specs.Pictures.{same_thing}
 use Rattle.model.specs.Calendar.{is_single}
 use Rattle.model.specs.Checks.{Check, first_failing, is_within_limits}
-use Rattle.model.specs.History.{History, numbers_to, today, singles_of, branch_of, KindFacts, kind_of, rule_of, patron_of, title_of}
+use Rattle.model.specs.History.{History, numbers_to, today, singles_of, branch_of, KindFacts, kind_of, rule_of, patron_of, title_of, thing_of}
 use Rattle.model.specs.History.{copy_of, loans, holds, hold_of}
 use Rattle.model.specs.Places.{Place, Shelf, HoldShelf, Transit, Loan, MissingCopy, WithdrawnCopy, title_of_copy, title_of_hold}
 use Rattle.model.specs.Places.{patron_of_hold, goal_of, is_waiting, is_ready}
@@ -79,6 +84,10 @@ module _ (H : History) where
   abbrev pub differs_copy : ℕ → ℕ → ℕ → ℕ → ℕ → Bool
   differs_copy c t k home price =
       unwrap_or (option_map (λ r. not ((r.title == t) && ((r.kind == k) && ((r.home == home) && (r.price == price))))) (copy_of H c)) false
+
+  -- Another thing has the barcode.
+  abbrev pub is_taken : Thing → List ℕ → Bool
+  is_taken t barcode = unwrap_or (option_map (λ u. not (same_thing u t)) (thing_of H barcode)) false
 
   -- For a patron, only the patron's own loans and holds exist.
   abbrev pub is_own : Owner → ℕ → Bool
@@ -213,6 +222,8 @@ checks_asked H (question.Kinds after) = []
 checks_asked H (question.Rules k after) = (UnknownKind, is_none (kind_of H k)) ∷ []
 checks_asked H (question.MissingCopies after) = []
 checks_asked H (question.Loans c after) = (UnknownCopy, not (has_copy H c)) ∷ []
+checks_asked H (question.FindBarcode barcode) = (UnknownBarcode, is_none (thing_of H barcode)) ∷ []
+checks_asked H (question.TillAt b d) = (UnknownBranch, not (has_branch H b)) ∷ []
 
 -- The checks of a command, in order, given the sight: each with its refusal, and whether it fails.
 abbrev pub checks_by : History → Sight → Owner → Command → List Check
@@ -244,6 +255,9 @@ checks_by H s o (AmendCopy c k price) =
     (OutOfLimits, not (is_within_limits (AmendCopy c k price))) ∷ (UnknownCopy, not (has_copy H c)) ∷ []
 checks_by H s o (Rehome c b) =
     (UnknownBranch, not (has_branch H b)) ∷ (UnknownCopy, not (has_copy H c)) ∷ (CopyWithdrawn, is_withdrawn (s.place c)) ∷ []
+checks_by H s o (CopyBarcode c barcode) = (UnknownCopy, not (has_copy H c)) ∷ (BarcodeTaken, is_taken H (thing.Copy c) barcode) ∷ []
+checks_by H s o (PatronBarcode p barcode) = (UnknownPatron, not (has_patron H p)) ∷ (BarcodeTaken, is_taken H (thing.Patron p) barcode) ∷ []
+checks_by H s o (DropBarcode barcode) = (UnknownBarcode, is_none (thing_of H barcode)) ∷ []
 checks_by H s o (CheckOut p c b) =
     (UnknownBranch, not (has_branch H b)) ∷ (UnknownPatron, not (has_patron H p)) ∷ (UnknownCopy, not (has_copy H c))
     ∷ (CopyWithdrawn, is_withdrawn (s.place c)) ∷ (CopyMissing, is_missing (s.place c)) ∷ (OnLoan, is_on_loan (s.place c))
@@ -276,6 +290,12 @@ checks_by H s o (Withdraw c) =
     ∷ (OnHoldShelf, is_on_hold_shelf (s.place c)) ∷ []
 checks_by H s o (Pay p n) = (UnknownPatron, not (has_patron H p)) ∷ (BadAmount, is_bad_amount H s p n) ∷ (NumbersUsedUp, lacks_lines H s 1) ∷ []
 checks_by H s o (Waive p n) = (UnknownPatron, not (has_patron H p)) ∷ (BadAmount, is_bad_amount H s p n) ∷ (NumbersUsedUp, lacks_lines H s 1) ∷ []
+checks_by H s o (Charge p n b text) =
+    (OutOfLimits, not (is_within_limits (Charge p n b text))) ∷ (UnknownPatron, not (has_patron H p)) ∷ (UnknownBranch, not (has_branch H b))
+    ∷ (BadAmount, n == 0) ∷ (NumbersUsedUp, lacks_lines H s 1) ∷ []
+checks_by H s o (PayAt p n b) =
+    (UnknownPatron, not (has_patron H p)) ∷ (UnknownBranch, not (has_branch H b)) ∷ (BadAmount, is_bad_amount H s p n)
+    ∷ (NumbersUsedUp, lacks_lines H s 1) ∷ []
 checks_by H s o (Page p) = (UnknownPatron, not (has_patron H p)) ∷ []
 checks_by H s o (Ask question) = checks_asked H question
 

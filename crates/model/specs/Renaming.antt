@@ -6,6 +6,7 @@ use Rattle.terms.specs.declared.command.Caller.{Caller}
 use Rattle.terms.specs.declared.command.Caller.TheVariants.{Desk as FromDesk, Patron as FromPatron}
 use Rattle.terms.specs.declared.command.Command.{Command}
 use Rattle.terms.specs.declared.command.Command.TheVariants.{Patron, SetCardKey, AmendPatron, CheckOut, PlaceHold, Pay, Waive, Page, Ask}
+use Rattle.terms.specs.declared.command.Command.TheVariants.{PatronBarcode, Charge, PayAt}
 use Rattle.terms.specs.declared.command.Request.{Request}
 use Rattle.terms.specs.declared.question.Question.{Question}
 use Rattle.terms.specs.declared.question.Question.TheVariants as question
@@ -48,6 +49,9 @@ module _ (f : ℕ → ℕ) where
   renamed (PlaceHold p t b d) = PlaceHold (f p) t b d
   renamed (Pay p n) = Pay (f p) n
   renamed (Waive p n) = Waive (f p) n
+  renamed (PatronBarcode p barcode) = PatronBarcode (f p) barcode
+  renamed (Charge p n b text) = Charge (f p) n b text
+  renamed (PayAt p n b) = PayAt (f p) n b
   renamed (Page p) = Page (f p)
   renamed (Ask q) = Ask (renamed_question q)
   renamed c = c

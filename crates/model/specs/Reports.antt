@@ -1,14 +1,14 @@
 -- The three reports, as bytes.
-use Rattle.std.specs.Prelude.{ℕ, ◌-◌, ◌==◌, nat_lt, Bool, true, false, ◌&&◌, List, [], ◌∷◌, ◌++◌, map, filter, flat_map, length, replicate}
-use Rattle.std.specs.Prelude.{codes, decimal, sum_by, option_map, unwrap_or}
+use Rattle.std.specs.Prelude.{ℕ, zero, suc, ◌-◌, ◌==◌, nat_lt, Bool, true, false, ◌&&◌, List, [], ◌∷◌, ◌++◌, map, filter, flat_map, length, replicate}
+use Rattle.std.specs.Prelude.{codes, decimal, sum_by, Option, Some, None, option_map, unwrap_or}
 use Rattle.calendar.specs.Days.{day_text}
 use Rattle.terms.specs.declared.row.Sort.{Sort}
-use Rattle.terms.specs.declared.row.Sort.TheVariants.{Fine, Price, Payment, Waiver}
+use Rattle.terms.specs.declared.row.Sort.TheVariants.{Fine, Price, Payment, Waiver, Charge}
 use Rattle.model.specs.Calendar.{late}
 use Rattle.model.specs.History.{History, numbers_to, today, is_open, loans, holds}
 use Rattle.model.specs.Places.{state, is_ready, goal_of, kept_for, limit, title_of_hold, patron_of_hold}
 use Rattle.model.specs.Loans.{loan_of, due, is_open_loan, title_of_loan}
-use Rattle.model.specs.Accounts.{lines, borrower}
+use Rattle.model.specs.Accounts.{Note, lines, borrower}
 use Rattle.model.specs.Pages.{spaced, title_text}
 
 -- The text, right-aligned in n columns.
@@ -63,6 +63,7 @@ is_sort Fine Fine = true
 is_sort Price Price = true
 is_sort Payment Payment = true
 is_sort Waiver Waiver = true
+is_sort Charge Charge = true
 is_sort _ _ = false
 
 -- The sum of a day's lines of one sort.
@@ -73,14 +74,37 @@ till_sum H d s = sum_by (λ x. x.amount) (filter (λ x. (x.day == d) && is_sort 
 abbrev pub till_line : List ℕ → ℕ → List ℕ
 till_line name n = left_in 9 name ++ right_in 15 (decimal n)
 
--- The till report of a day: the day, and its sums of fines, prices, payments and waivers.
+-- The row of charges, if there are any.
+abbrev pub charges_row : ℕ → List (List ℕ)
+charges_row zero = []
+charges_row (suc n) = till_line (codes "charges") (suc n) ∷ []
+
+-- The till report of a day: the day, its sums of fines, prices, payments and waivers, and that of charges if any
+-- was made.
 abbrev pub till_rows : History → ℕ → List (List ℕ)
 till_rows H d =
     spaced (codes "till" ∷ day_text d ∷ []) ∷ till_line (codes "fines") (till_sum H d Fine) ∷ till_line (codes "prices") (till_sum H d Price)
-    ∷ till_line (codes "payments") (till_sum H d Payment) ∷ till_line (codes "waivers") (till_sum H d Waiver) ∷ []
+    ∷ till_line (codes "payments") (till_sum H d Payment) ∷ till_line (codes "waivers") (till_sum H d Waiver) ∷ charges_row (till_sum H d Charge)
 
 abbrev pub till : History → ℕ → List ℕ
 till H d = report_lines (till_rows H d)
+
+-- ---- till of a branch
+
+-- The note says that the line was made at this branch.
+abbrev pub is_made_at : ℕ → Option Note → Bool
+is_made_at b (Some note) = note.branch == b
+is_made_at b None = false
+
+-- The sum of a day's lines of one sort that were made at the branch.
+abbrev pub till_sum_at : History → ℕ → ℕ → Sort → ℕ
+till_sum_at H b d s = sum_by (λ x. x.amount) (filter (λ x. (x.day == d) && (is_sort x.sort s && is_made_at b x.note)) (lines H))
+
+-- The till of a branch on a day: the day and the branch, and the sums of the payments and charges made there.
+abbrev pub till_at_rows : History → ℕ → ℕ → List (List ℕ)
+till_at_rows H b d =
+    spaced (codes "till" ∷ day_text d ∷ codes "at" ∷ decimal b ∷ []) ∷ till_line (codes "payments") (till_sum_at H b d Payment)
+    ∷ till_line (codes "charges") (till_sum_at H b d Charge) ∷ []
 
 -- ---- shelf
 

@@ -1,5 +1,5 @@
 -- Which rows of the tables each list of the desk's questions shows.
-use Rattle.std.specs.Prelude.{◌≡◌, ℕ, zero, suc, ◌<◌, ◌≤◌, ◌==◌, ◌↔◌, true, ◌&&◌, List, [], ◌∷◌, ◌++◌, filter, sum_by, Option, Some, None, codes, decimal}
+use Rattle.std.specs.Prelude.{◌≡◌, ℕ, zero, suc, ◌<◌, ◌≤◌, ◌==◌, ◌↔◌, Bool, true, false, ◌&&◌, List, [], ◌∷◌, ◌++◌, filter, sum_by, Option, Some, None, codes, decimal}
 use Rattle.calendar.specs.Days.{day_text}
 use Rattle.terms.specs.Texts.{mask_text}
 use Rattle.terms.specs.declared.row.BranchRow.{BranchRow}
@@ -11,6 +11,7 @@ use Rattle.terms.specs.declared.row.HoldRow.{HoldRow}
 use Rattle.terms.specs.declared.row.HoldState.TheVariants.{Waiting, Ready}
 use Rattle.terms.specs.declared.row.LineRow.{LineRow}
 use Rattle.terms.specs.declared.row.LoanRow.{LoanRow}
+use Rattle.terms.specs.declared.row.NoteRow.{NoteRow}
 use Rattle.terms.specs.declared.row.PatronRow.{PatronRow}
 use Rattle.terms.specs.declared.row.Sort.{Sort}
 use Rattle.terms.specs.declared.row.TitleRow.{TitleRow}
@@ -21,7 +22,7 @@ use Rattle.model.specs.Asking.{pulled_for, copies_list, queue_list, account_list
 use Rattle.model.specs.Asking.{branches_list, closed_days_list, kinds_list, rules_list, missing_copies_list, loans_list, ended_words}
 use Rattle.model.specs.AskingLaws.{has_number}
 use Rattle.model.specs.Pages.{spaced}
-use Rattle.model.specs.Reports.{is_sort, till_sum}
+use Rattle.model.specs.Reports.{is_sort, till_sum, till_sum_at}
 use Rattle.model.specs.Loans.{open_loans}
 use Rattle.model.specs.Refusals.{active_holds}
 use Rattle.model.specs.Laws.{is_active_state}
@@ -51,6 +52,13 @@ missing_copy_words r x = spaced (codes "copy" ∷ decimal r.copy ∷ codes "home
 abbrev pub loan_row_words : LoanRow → List ℕ
 loan_row_words r = spaced (codes "loan" ∷ decimal r.loan ∷ codes "patron" ∷ decimal r.patron ∷ codes "made" ∷ day_text r.made ∷ codes "due" ∷ day_text r.due
     ∷ ended_words r.ended)
+
+-- ---- where a line was made
+
+-- The note says that the line was made at this branch.
+abbrev pub is_noted_at : ℕ → Option NoteRow → Bool
+is_noted_at b (Some x) = x.branch == b
+is_noted_at b None = false
 
 module _ (T : Picture) where
   -- ---- single rows
@@ -144,9 +152,14 @@ module _ (T : Picture) where
   abbrev pub sum_of_rows : ℕ → Sort → ℕ
   sum_of_rows d s = sum_by (λ r. r.amount) (filter (λ r. (r.day == d) && is_sort r.sort s) (line_rows_below T.meta.next_line))
 
+  -- The sum of a day's rows of one sort whose notes name the branch.
+  abbrev pub sum_of_rows_at : ℕ → ℕ → Sort → ℕ
+  sum_of_rows_at b d s =
+      sum_by (λ r. r.amount) (filter (λ r. (r.day == d) && (is_sort r.sort s && is_noted_at b (T.notes r.line))) (line_rows_below T.meta.next_line))
+
 -- Each list has exactly the numbers of the rows that pass its test, a page those of the patron's open loans
 -- and active holds, the copy shown with a hold to pull for is the one to pull, and the till's sums are those
--- of the day's rows. Of a row of settings, a missing copy or a loan its columns are told, as they are today.
+-- of the day's rows, at a branch those of the rows whose notes name it. Of a row of settings, a missing copy or a loan its columns are told, as they are today.
 pub record ShowsRows (H : History) (T : Picture) : Type 0 where
   pub copies : (t c : ℕ) → has_number (copies_list H t).numbers c ↔ IsCopyOf T t c
   pub queue : (t h : ℕ) → has_number (queue_list H t).numbers h ↔ IsInLineOf T t h
@@ -160,6 +173,7 @@ pub record ShowsRows (H : History) (T : Picture) : Type 0 where
   pub page_loans : (p l : ℕ) → has_number (open_loans H p) l ↔ IsOpenLoanOf T p l
   pub page_holds : (p h : ℕ) → has_number (active_holds H p) h ↔ IsActiveHoldOf T p h
   pub till : (d : ℕ) (s : Sort) → till_sum H d s ≡ sum_of_rows T d s
+  pub till_at : (b d : ℕ) (s : Sort) → till_sum_at H b d s ≡ sum_of_rows_at T b d s
   pub branches : (b : ℕ) → has_number (branches_list H).numbers b ↔ ((r : BranchRow) × (T.branches b ≡ Some r))
   pub branch_rows : (b : ℕ) (r : BranchRow) → T.branches b ≡ Some r → (branches_list H).row b ≡ branch_row_words r
   pub closed_days : (b d : ℕ) → has_number (closed_days_list H b).numbers d ↔ ((T.closed_days b d ≡ true) × (T.meta.today < d))

@@ -1,7 +1,7 @@
 -- Libraries of older schemas: their commands, lines, fines, legal histories, and table rows.
 use Rattle.std.specs.Prelude.{◌≡◌, ℕ, suc, zero, ◌*◌, min, Bool, true, false, IsTrue, List, [], ◌∷◌, Option, Some, None, option_map}
 use Rattle.terms.specs.declared.command.Command.{Command}
-use Rattle.terms.specs.declared.command.Command.TheVariants.{PlaceHold, Grace}
+use Rattle.terms.specs.declared.command.Command.TheVariants.{PlaceHold, Grace, CopyBarcode, PatronBarcode, DropBarcode, Charge, PayAt}
 use Rattle.terms.specs.declared.row.RuleRow.{RuleRow}
 use Rattle.terms.specs.declared.row.RuleRow1.{RuleRow1}
 use Rattle.terms.specs.declared.row.LoanRow.{LoanRow}
@@ -10,7 +10,7 @@ use Rattle.terms.specs.declared.row.HoldRow.{HoldRow}
 use Rattle.terms.specs.declared.row.HoldRow1.{HoldRow1}
 use Rattle.terms.specs.Limits.{InLimits, ClosesFewDays}
 use Rattle.terms.specs.Money.{fine_for}
-use Rattle.terms.specs.Schemas.{IsOfSchema1, IsOfSchema2, led_to_2, led_to_3}
+use Rattle.terms.specs.Schemas.{IsOfSchema1, IsOfSchema2, IsOfSchema3, led_to_2, led_to_3, led_to_4}
 use Rattle.terms.specs.declared.row.HoldState.{HoldState}
 use Rattle.terms.specs.declared.command.Owner.{Owner}
 use Rattle.model.specs.History.{History}
@@ -55,12 +55,33 @@ pub record StandsStill (is_of : Command → Bool) (sight_of : History → Sight)
 abbrev pub OldListsStand : (Command → Bool) → (History → Sight) → Type 0
 OldListsStand is_of sight_of = (H : History) → IsLegalBy is_of sight_of H → StandsStill is_of sight_of H
 
+-- ---- schema 3
+
+-- A command of schema 3: nothing had a barcode, and there were neither charges nor counters.
+abbrev pub is_of_schema_3 : Command → Bool
+is_of_schema_3 (CopyBarcode c barcode) = false
+is_of_schema_3 (PatronBarcode p barcode) = false
+is_of_schema_3 (DropBarcode barcode) = false
+is_of_schema_3 (Charge p n b text) = false
+is_of_schema_3 (PayAt p n b) = false
+is_of_schema_3 _ = true
+
+abbrev pub AreOfSchema3 : History → Type 0
+AreOfSchema3 = AreOf is_of_schema_3
+
+-- What a history showed: what it shows today.
+abbrev pub sight3 : History → Sight
+sight3 = sight
+
+abbrev pub IsLegal3 : History → Type 0
+IsLegal3 = IsLegalBy is_of_schema_3 sight3
+
 -- ---- schema 2
 
--- A command of schema 2: no rule had grace days.
+-- A command of schema 2: no rule had grace days either.
 abbrev pub is_of_schema_2 : Command → Bool
 is_of_schema_2 (Grace k c days) = false
-is_of_schema_2 _ = true
+is_of_schema_2 x = is_of_schema_3 x
 
 abbrev pub AreOfSchema2 : History → Type 0
 AreOfSchema2 = AreOf is_of_schema_2
@@ -90,8 +111,7 @@ IsLegal2 = IsLegalBy is_of_schema_2 sight2
 -- A command of schema 1: no hold had a first day either.
 abbrev pub is_of_schema_1 : Command → Bool
 is_of_schema_1 (PlaceHold p t b (Some d)) = false
-is_of_schema_1 (Grace k c days) = false
-is_of_schema_1 _ = true
+is_of_schema_1 x = is_of_schema_2 x
 
 abbrev pub AreOfSchema1 : History → Type 0
 AreOfSchema1 = AreOf is_of_schema_1
@@ -128,9 +148,12 @@ sight1 H = record { place = place1 H; state = state1 H; begun = begun_at_once; l
 abbrev pub IsLegal1 : History → Type 0
 IsLegal1 = IsLegalBy is_of_schema_1 sight1
 
--- Each history of schema 1 is one of schema 2.
+-- Each history of schema 1 is one of schema 2, and each of schema 2 one of schema 3.
 abbrev pub Schema1IsWithinSchema2 : Type 0
 Schema1IsWithinSchema2 = (H : History) → AreOfSchema1 H → AreOfSchema2 H
+
+abbrev pub Schema2IsWithinSchema3 : Type 0
+Schema2IsWithinSchema3 = (H : History) → AreOfSchema2 H → AreOfSchema3 H
 
 -- ---- tables
 
@@ -170,10 +193,13 @@ loan_row1 H l = option_map loan1_columns (loan_row H l)
 abbrev pub hold_row1 : History → ℕ → Option HoldRow1
 hold_row1 H h = option_map hold1_columns (hold_row H h)
 
--- The tables of schema 2: rules and loans stand in its own tables, every other row is as in the newest
--- schema.
+-- The tables of schema 3: there are no barcodes and no notes, every other row is as in the newest schema.
+abbrev pub picture3 : History → Picture
+picture3 H = record (picture H) { meta = record (meta_row H) { schema = 3 }; barcodes = λ _. None; notes = λ _. None }
+
+-- The tables of schema 2: rules and loans stand in its own tables, every other row is as in schema 3.
 abbrev pub picture2 : History → Picture
-picture2 H = record (picture H) {
+picture2 H = record (picture3 H) {
   meta = record (meta_row H) { schema = 2 };
   rules = λ _ _. None;
   rules1 = rule_row1 H;
@@ -189,11 +215,13 @@ picture1 H = record (picture2 H) { meta = record (meta_row H) { schema = 1 }; ho
 abbrev pub IsLegalAt : ℕ → History → Type 0
 IsLegalAt (suc zero) H = IsLegal1 H
 IsLegalAt (suc (suc zero)) H = IsLegal2 H
+IsLegalAt (suc (suc (suc zero))) H = IsLegal3 H
 IsLegalAt _ H = IsLegal H
 
 abbrev pub picture_at : ℕ → History → Picture
 picture_at (suc zero) H = picture1 H
 picture_at (suc (suc zero)) H = picture2 H
+picture_at (suc (suc (suc zero))) H = picture3 H
 picture_at _ H = picture H
 
 -- The tables of an older schema become those of the next, and keep the same limits.
@@ -207,4 +235,5 @@ pub record IsLed (old : Picture) (led_to : Picture → Picture) (new : Picture) 
 abbrev pub OldTablesAreLed : Type 0
 OldTablesAreLed = (H : History)
     → (AreOfSchema1 H → IsOfSchema1 (picture1 H) × IsLed (picture1 H) led_to_2 (picture2 H))
-    × (AreOfSchema2 H → IsOfSchema2 (picture2 H) × IsLed (picture2 H) led_to_3 (picture H))
+    × (AreOfSchema2 H → IsOfSchema2 (picture2 H) × IsLed (picture2 H) led_to_3 (picture3 H))
+    × (AreOfSchema3 H → IsOfSchema3 (picture3 H) × IsLed (picture3 H) led_to_4 (picture H))

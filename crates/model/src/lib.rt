@@ -14,6 +14,8 @@ ghost use Rattle.model.specs.AskingLaws.{AccountsAreShown, ShelvesAreUnclaimed};
 ghost use Rattle.model.specs.TurnLaws.{Turns, Limits, FewAtAllTimes, OneEach, PlacesKept};
 ghost use Rattle.model.specs.RowLaws.{RowsAreShown};
 ghost use Rattle.model.specs.ChargeLaws.{Charges};
+ghost use Rattle.model.specs.LabelLaws.{Labels};
+ghost use Rattle.model.specs.CounterLaws.{Notes, Counters};
 ghost use Rattle.model.specs.Renaming.{Anonymity, SwapsRename};
 ghost use Rattle.model.specs.Calendars.{CalendarsAgree};
 ghost use Rattle.model.specs.CheckOrder.{RefusedInOrder};
@@ -21,9 +23,11 @@ ghost use Rattle.model.specs.Corrections.{Amended, Void};
 ghost use Rattle.model.specs.Forms.{FormsStay, FormsAreWhole, RowsInLimits, FewClosedDays};
 ghost use Rattle.model.specs.Invariant.{Invariants};
 ghost use Rattle.model.specs.References.{References};
-ghost use Rattle.model.specs.Schemas.{is_of_schema_1, is_of_schema_2, sight1, sight2};
+ghost use Rattle.model.specs.Schemas.{is_of_schema_1, is_of_schema_2, is_of_schema_3};
+ghost use Rattle.model.specs.Schemas.{sight1, sight2, sight3};
 ghost use Rattle.model.specs.Schemas.{OldListsStand, FinesWithoutGrace};
 ghost use Rattle.model.specs.Schemas.{OldTablesAreLed, Schema1IsWithinSchema2};
+ghost use Rattle.model.specs.Schemas.{Schema2IsWithinSchema3};
 ghost use Rattle.model.specs.Repeats.{RepeatsLeaveNothing, RepeatsGetTheKeptReply, RowsActOnce};
 ghost use Rattle.model.specs.DueDays.{WholeWeeksStay, DueDays, DueDaysExist, ShelfLimits};
 ghost use Rattle.model.specs.DueDays.{LimitsExist};
@@ -44,7 +48,7 @@ pub fn bindings_law()
     ensures { Bindings }
 {}
 
-/// For every patron, fines and prices equal payments and waivers plus the debt.
+/// For every patron, fines, prices and charges equal payments and waivers plus the debt.
 pub fn balance_law()
     ensures { Balance }
 {}
@@ -183,22 +187,25 @@ pub fn few_closed_days_law()
 
 /// A list of requests that was legal under schema 1, whose commands had no first days and whose
 /// queue ignored them, or under schema 2, whose rules had no grace days and whose fines ignored
-/// them, is legal today: every copy is in the same place, every hold in the same state, the
-/// accounts have the same lines, and every command gets the same answer. The fine without grace
-/// days is that of both.
+/// them, or under schema 3, which had no barcodes, no charges and no counters, is legal today: every
+/// copy is in the same place, every hold in the same state, the accounts have the same lines, and
+/// every command gets the same answer. The fine without grace days is that of schemas 1 and 2.
 pub fn old_lists_law()
     ensures schema_1 { OldListsStand is_of_schema_1 sight1 }
     ensures schema_2 { OldListsStand is_of_schema_2 sight2 }
+    ensures schema_3 { OldListsStand is_of_schema_3 sight3 }
     ensures fines { FinesWithoutGrace }
 {}
 
 /// Migration turns the tables of a schema 1 library after a history into those of schema 2 after
-/// the same history, every hold keeping its state, copy and limit; and those of schema 2 into those
-/// of the newest schema, every rule and loan keeping its terms. They keep to the same limits. Each
-/// list of schema 1 is one of schema 2.
+/// the same history, every hold keeping its state, copy and limit; those of schema 2 into those of
+/// schema 3, every rule and loan keeping its terms; and those of schema 3 into those of the newest
+/// schema, which has no barcodes and no notes yet. They keep to the same limits. Each list of schema
+/// 1 is one of schema 2, and each of schema 2 one of schema 3.
 pub fn old_tables_law()
     ensures led { OldTablesAreLed }
-    ensures within { Schema1IsWithinSchema2 }
+    ensures within_2 { Schema1IsWithinSchema2 }
+    ensures within_3 { Schema2IsWithinSchema3 }
 {}
 
 /// A list asked for repeatedly, each time from the last number shown, shows every number that it
@@ -231,7 +238,7 @@ pub fn turns_law()
     ensures pulled { PulledCopiesServe }
 {}
 
-/// A patron is listed as owing if and only if fines and prices exceed payments and waivers.
+/// A patron is listed as owing if and only if fines, prices and charges exceed payments and waivers.
 pub fn debts_law()
     ensures { DebtsAreShown }
 {}
@@ -276,7 +283,7 @@ pub fn one_each_law()
 
 /// Each list that can be asked for has exactly the numbers of those rows of the tables that pass its
 /// test, a page those of the patron's open loans and active holds, and the till's sums are those of
-/// the day's rows. Of branches, kinds of patrons, rules, missing copies and loans the columns are
+/// the day's rows, a branch's those of the rows whose notes name it. Of branches, kinds of patrons, rules, missing copies and loans the columns are
 /// told.
 pub fn rows_shown_law()
     ensures { RowsAreShown }
@@ -286,6 +293,24 @@ pub fn rows_shown_law()
 /// most one of each. Its fine is that of its end, and its price that of a copy missing.
 pub fn charges_law()
     ensures { Charges }
+{}
+
+/// No two things have the same barcode. A copy or a patron has the one that the last command gave it,
+/// unless that was dropped since, and `find-barcode` finds the one that has it.
+pub fn labels_law()
+    ensures { Labels }
+{}
+
+/// Every charge has a note, and every note is that of a charge, with what it is for, or of a payment,
+/// without.
+pub fn notes_law()
+    ensures { Notes }
+{}
+
+/// On every day the payments in the tills of all branches and those without a note are the payments
+/// of the till, and the charges in the tills of all branches are its charges.
+pub fn counters_law()
+    ensures { Counters }
 {}
 
 /// While a hold stands in its title's queue, another comes before it only by coming back: a copy that
