@@ -1,7 +1,7 @@
 -- The effect of one or two more charges on the accounts and their lines.
 use Rattle.std.proofs.Common.{◌≡◌, ℕ, zero, suc, ◌+◌, ◌-◌, ◌≤◌, ◌==◌, Bool, true, false, cond, ◌&&◌, List, [], ◌∷◌, ◌++◌, length, refl, sym}
 use Rattle.std.proofs.Common.{◌∙◌, ap, subst, arith}
-use Rattle.std.specs.Prelude.{Option, Some, option_map, filter}
+use Rattle.std.specs.Prelude.{Option, Some, None, option_map, filter}
 use Rattle.std.proofs.lemmas.Bool.{eqb-true, eq-eqb}
 use Rattle.std.proofs.lemmas.List.{append-nil, append_assoc}
 use Rattle.std.proofs.lemmas.List.Elements.{filter-append}
@@ -136,7 +136,7 @@ module _ (H : History) (p l : ℕ) where
   lines_with fine price = lines H ++ (line_of H p Fine (Some l) fine ++ line_of H p Price (Some l) price)
 
   abbrev one : Sort → ℕ → Line
-  one sort m = record { patron = p; day = today H; sort = sort; amount = suc m; loan = Some l }
+  one sort m = record { patron = p; day = today H; sort = sort; amount = suc m; loan = Some l; note = None }
 
   module _ (inv : Invariant H) (f : PatronFacts) (enrolled : patron_of H p ≡ Some f) (q : LoanRow) (by : q.patron ≡ p) (number : q.loan ≡ l)
       (P : Picture) (meta_is : P.meta ≡ meta_row H) (patrons_are : (k : ℕ) → P.patrons k ≡ patron_row H k)

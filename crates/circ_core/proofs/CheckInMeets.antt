@@ -28,6 +28,7 @@ use Rattle.model.specs.Requests.{IsLegal}
 use Rattle.model.proofs.Invariants.{legal-Invariant}
 use Rattle.model.proofs.Moves.{moved}
 use Rattle.model.proofs.Passing.{passed}
+use Rattle.model.proofs.Unnoted.{notes-stay, unnoted-fine}
 use Rattle.circ_core.specs.declared.changes.RowChange.{RowChange}
 use Rattle.circ_core.specs.declared.changes.RowChange.TheVariants.{PutCopy}
 use Rattle.circ_core.specs.declared.routing.Course.{Course}
@@ -357,6 +358,8 @@ module _ (H : History) (legal : IsLegal H) (c b : ℕ) (v : View) (w : IsCheckIn
           transits = λ n. (ap (λ (T : Picture). T.transits n) shown.others ∙ sends H c b way gone.transits left.free left.transits n
               ∙ ap (λ q. transit_at n (moved c q (place H) n)) to_there.0) i;
           lines = λ n. shown.lines n i;
+          notes = λ n. (ap (λ (T : Picture). T.notes n) others
+              ∙ sym (notes-stay H (lines H) (fine_line H (grace_of H) (place H c)) n n (unnoted-fine H (place H c)))) i;
           kept = (picture (event owner key (CheckIn c b) ∷ H)).kept;
         })
 

@@ -5,6 +5,7 @@ use Rattle.terms.specs.declared.command.Command.TheVariants.{BeginDay, Branch, W
 use Rattle.terms.specs.declared.command.Command.TheVariants.{SetCardKey, AmendPatron, AmendBranch, AmendTitle, AmendCopy, Rehome}
 use Rattle.terms.specs.declared.command.Command.TheVariants.{Renew, PlaceHold, CancelHold, Unshelve, UnshelveCancelled, Missing, Withdraw}
 use Rattle.terms.specs.declared.command.Command.TheVariants.{CloseDay, OpenDay, Pay, Waive, Page, Ask}
+use Rattle.terms.specs.declared.command.Command.TheVariants.{CopyBarcode, PatronBarcode, DropBarcode, Charge, PayAt}
 use Rattle.terms.specs.declared.refusal.Refusal.{Refusal}
 use Rattle.model.specs.History.{History}
 use Rattle.model.specs.Requests.{IsLegal, is_question}
@@ -39,6 +40,8 @@ use Rattle.circ_core.proofs.CancelHoldMeets.{cancel_hold_meets}
 use Rattle.circ_core.proofs.MissingMeets.{missing_meets}
 use Rattle.circ_core.proofs.WithdrawMeets.{withdraw_meets}
 use Rattle.circ_core.proofs.PayAndWaiveMeets.{pay_meets, waive_meets}
+use Rattle.circ_core.proofs.CounterMeets.{charge_meets, pay_at_meets}
+use Rattle.circ_core.proofs.BarcodeMeets.{copy_barcode_meets, patron_barcode_meets, drop_barcode_meets}
 use Rattle.circ_core.proofs.PageMeets.{page_meets}
 
 pub decides : (H : History) → IsLegal H → (v : View) (command : Command) (result : Result Decision Refusal)
@@ -62,6 +65,9 @@ decides H legal v (AmendBranch branch pickup name) result changes w on = decided
 decides H legal v (AmendTitle title text) result changes w on = decided H _ _ _ _ (amend_title_meets H title text v.title w) result on
 decides H legal v (AmendCopy copy kind price) result changes w on = decided H _ _ _ _ (amend_copy_meets H copy kind price v.copy w) result on
 decides H legal v (Rehome copy branch) result changes w on = decided H _ _ _ _ (rehome_meets H (legal-Invariant H legal) copy branch v w) result on
+decides H legal v (CopyBarcode copy barcode) result changes w on = decided H _ _ _ _ (copy_barcode_meets H legal barcode copy v w) result on
+decides H legal v (PatronBarcode patron barcode) result changes w on = decided H _ _ _ _ (patron_barcode_meets H legal barcode patron v w) result on
+decides H legal v (DropBarcode barcode) result changes w on = decided H _ _ _ _ (drop_barcode_meets H legal barcode v w) result on
 decides H legal v (CheckOut patron copy branch) result changes w on = decided H _ _ _ _ (check_out_meets H (legal-Invariant H legal) patron copy branch v w) result on
 decides H legal v (CheckIn copy branch) result changes w on = decided H _ _ _ _ (check_in_meets H legal copy branch v w) result on
 decides H legal v (Renew loan) result changes w on = decided H _ _ _ _ (renew_meets H legal (legal-Invariant H legal) loan v w) result on
@@ -74,5 +80,8 @@ decides H legal v (Missing copy) result changes w on = decided H _ _ _ _ (missin
 decides H legal v (Withdraw copy) result changes w on = decided H _ _ _ _ (withdraw_meets H (legal-Invariant H legal) copy v w) result on
 decides H legal v (Pay patron amount) result changes w on = decided H _ _ _ _ (pay_meets H patron v w amount) result on
 decides H legal v (Waive patron amount) result changes w on = decided H _ _ _ _ (waive_meets H patron v w amount) result on
+decides H legal v (Charge patron amount branch text) result changes w on =
+    decided H _ _ _ _ (charge_meets H patron branch v w (legal-Invariant H legal) text amount) result on
+decides H legal v (PayAt patron amount branch) result changes w on = decided H _ _ _ _ (pay_at_meets H patron branch v w amount) result on
 decides H legal v (Page patron) result changes w on = decided H _ _ _ _ (page_meets H patron v.patron w) result on
 decides H legal v (Ask question) result changes w on = let never : ⊥ = cc in absurd never

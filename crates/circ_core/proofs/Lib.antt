@@ -39,6 +39,8 @@ pub mod CancelHoldMeets
 pub mod PlaceHoldMeets
 pub mod RenewMeets
 pub mod PayAndWaiveMeets
+pub mod CounterMeets
+pub mod BarcodeMeets
 pub mod PageMeets
 pub mod OwnersApart
 pub mod Decisions

@@ -22,8 +22,9 @@ use Rattle.model.specs.Answers.{missed}
 use Rattle.model.specs.Refusals.{checks, is_on_loan, is_on_hold_shelf, is_in_transit, lacks_lines}
 use Rattle.model.specs.Requests.{IsLegal}
 use Rattle.model.specs.Invariant.{Invariant}
-use Rattle.model.specs.Picture.{picture, meta_row, copy_row, hold_row, patron_columns, copy_columns, transit_row, transit_at, nth_line, line_columns}
+use Rattle.model.specs.Picture.{picture, meta_row, copy_row, hold_row, patron_columns, copy_columns, transit_row, transit_at, nth_line, line_columns, note_row}
 use Rattle.model.proofs.Passing.{passed}
+use Rattle.model.proofs.Unnoted.{note_in, notes-stay, unnoted-append, unnoted-fine, unnoted-price}
 use Rattle.circ_core.specs.declared.changes.RowChange.{RowChange}
 use Rattle.circ_core.specs.declared.changes.RowChange.TheVariants.{TakeTransit}
 use Rattle.circ_core.specs.declared.views.View.{View}
@@ -91,6 +92,11 @@ module _ (H : History) (legal : IsLegal H) (inv : Invariant H) (c : ℕ) (r : Co
 
   -- ---- the rows
 
+  -- The lines that are made have no notes.
+  notes_same : (n : ℕ) → note_row H n ≡ note_in H (lines H ++ lines_by H (Missing c)) n n
+  notes_same n = sym (notes-stay H (lines H) (lines_by H (Missing c)) n n
+      (unnoted-append (fine_line H (grace_of H) (place H c)) (price_line H c (place H c)) (unnoted-fine H (place H c)) (unnoted-price H c (place H c))))
+
   abbrev freed : Option LoanRow → Option HoldRow → Option TransitRow → Picture
   freed loan hold transit = changed (condition_rows (Some row) condition.Missing ++ release_rows loan hold transit (today H)) (picture H)
 
@@ -112,6 +118,7 @@ module _ (H : History) (legal : IsLegal H) (inv : Invariant H) (c : ℕ) (r : Co
         holds = λ n. (ap (λ (T : Picture). T.holds n) s.others ∙ holds_all_stay H c MissingCopy refl refl off n) i;
         transits = λ n. (ap (λ (T : Picture). T.transits n) s.others ∙ transits_still H c MissingCopy refl refl still n) i;
         lines = λ n. (s.lines n ∙ ap (λ xs. option_map (line_columns H n) (nth_line xs n)) same) i;
+        notes = λ n. (ap (λ (T : Picture). T.notes n) s.others ∙ notes_same n) i;
         kept = (picture (event owner key (Missing c) ∷ H)).kept;
       }
 
@@ -134,6 +141,7 @@ module _ (H : History) (legal : IsLegal H) (inv : Invariant H) (c : ℕ) (r : Co
         holds = λ n. holds_p n i;
         transits = λ n. transits_p n i;
         lines = λ n. (ap (λ (T : Picture). T.lines n) others ∙ ap (λ xs. option_map (line_columns H n) (nth_line xs n)) same) i;
+        notes = λ n. (ap (λ (T : Picture). T.notes n) others ∙ notes_same n) i;
         kept = (picture (event owner key (Missing c) ∷ H)).kept;
       }
 

@@ -9,6 +9,8 @@ use Rattle.terms.specs.declared.command.Command.TheVariants.{BeginDay, Branch, W
 use Rattle.terms.specs.declared.command.Command.TheVariants.{SetCardKey, AmendPatron, AmendBranch, AmendTitle, AmendCopy, Rehome}
 use Rattle.terms.specs.declared.command.Command.TheVariants.{Renew, PlaceHold, CancelHold, Unshelve, UnshelveCancelled, Missing, Withdraw}
 use Rattle.terms.specs.declared.command.Command.TheVariants.{CloseDay, OpenDay, Pay, Waive, Page, Ask}
+use Rattle.terms.specs.declared.command.Command.TheVariants.{CopyBarcode, PatronBarcode, DropBarcode, Charge, PayAt}
+use Rattle.terms.specs.declared.row.Thing.TheVariants as thing
 use Rattle.circ_core.specs.declared.changes.Decision.{Decision}
 use Rattle.circ_core.specs.declared.views.View.{View}
 use Rattle.circ_core.specs.Decided.{Decided}
@@ -36,6 +38,8 @@ use Rattle.circ_core.specs.Renew.{renew_checks, renewed_due_in, renewed_rows}
 use Rattle.circ_core.specs.PlaceHold.{place_hold_checks, place_hold_rows}
 use Rattle.circ_core.specs.CancelHold.{cancel_hold_checks, cancel_hold_rows}
 use Rattle.circ_core.specs.PayAndWaive.{settle_checks, settle_rows}
+use Rattle.circ_core.specs.Counter.{charge_checks, charge_rows, owed_after, pay_at_checks, pay_at_rows}
+use Rattle.circ_core.specs.Barcode.{copy_barcode_checks, patron_barcode_checks, drop_barcode_checks, barcode_rows, drop_barcode_rows}
 use Rattle.circ_core.specs.Page.{page_checks}
 
 -- The decision is that of the command's checks, reply and row changes. A question has none: it is answered
@@ -61,6 +65,9 @@ DecidesOn v (AmendBranch branch pickup name) decided =
 DecidesOn v (AmendTitle title text) decided = Decided (amend_title_checks v.title) Done (amend_title_rows v.title text) decided
 DecidesOn v (AmendCopy copy kind price) decided = Decided (amend_copy_checks v.copy kind price) Done (amend_copy_rows v.copy kind price) decided
 DecidesOn v (Rehome copy branch) decided = Decided (rehome_checks v) Done (rehome_rows v branch) decided
+DecidesOn v (CopyBarcode copy barcode) decided = Decided (copy_barcode_checks v copy) Done (barcode_rows (thing.Copy copy) barcode) decided
+DecidesOn v (PatronBarcode patron barcode) decided = Decided (patron_barcode_checks v patron) Done (barcode_rows (thing.Patron patron) barcode) decided
+DecidesOn v (DropBarcode barcode) decided = Decided (drop_barcode_checks v) Done (drop_barcode_rows v.labelled) decided
 DecidesOn v (CheckOut patron copy branch) decided =
     Decided (check_out_checks v patron branch) (Lent v.meta.next_loan (due_in v)) (check_out_rows v patron copy branch (due_in v)) decided
 DecidesOn v (CheckIn copy branch) decided =
@@ -76,5 +83,9 @@ DecidesOn v (Missing copy) decided = Decided (missing_checks v) (missing_reply v
 DecidesOn v (Withdraw copy) decided = Decided (withdraw_checks v) Done (withdraw_rows v) decided
 DecidesOn v (Pay patron amount) decided = Decided (settle_checks v amount) (Owed (owed_by v.patron - amount)) (settle_rows v patron Payment amount) decided
 DecidesOn v (Waive patron amount) decided = Decided (settle_checks v amount) (Owed (owed_by v.patron - amount)) (settle_rows v patron Waiver amount) decided
+DecidesOn v (Charge patron amount branch text) decided =
+    Decided (charge_checks v patron amount branch text) (Owed (owed_after v.patron amount)) (charge_rows v patron amount branch text) decided
+DecidesOn v (PayAt patron amount branch) decided =
+    Decided (pay_at_checks v amount) (Owed (owed_by v.patron - amount)) (pay_at_rows v patron amount branch) decided
 DecidesOn v (Page patron) decided = Decided (page_checks v.patron) Done [] decided
 DecidesOn v (Ask question) decided = Decided [] Done [] decided

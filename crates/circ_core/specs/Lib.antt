@@ -31,6 +31,8 @@ pub mod Unshelve
 pub mod Missing
 pub mod Withdraw
 pub mod PayAndWaive
+pub mod Counter
+pub mod Barcode
 pub mod Page
 pub mod Owners
 pub mod Deciding

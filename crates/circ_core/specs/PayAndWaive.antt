@@ -13,20 +13,24 @@ use Rattle.circ_core.specs.declared.views.View.{View}
 use Rattle.circ_core.specs.Debt.{owed_by}
 
 -- The amount is zero or above the debt; no line number is left.
+abbrev pub amount_checks : MetaRow → ℕ → ℕ → List Check
+amount_checks meta owed amount = (BadAmount, (amount == 0) || nat_lt owed amount) ∷ (NumbersUsedUp, nat_lt LAST_NUMBER meta.next_line) ∷ []
+
 abbrev pub settle_checks : View → ℕ → List Check
-settle_checks view amount =
-    (UnknownPatron, is_none view.patron) ∷ (BadAmount, (amount == 0) || nat_lt (owed_by view.patron) amount)
-    ∷ (NumbersUsedUp, nat_lt LAST_NUMBER view.meta.next_line) ∷ []
+settle_checks view amount = (UnknownPatron, is_none view.patron) ∷ amount_checks view.meta (owed_by view.patron) amount
 
 -- The new line.
 abbrev pub new_line : MetaRow → ℕ → Sort → ℕ → LineRow
 new_line meta patron sort amount = record { line = meta.next_line; patron = patron; day = meta.today; sort = sort; amount = amount; loan = None }
 
--- The next number is given, the patron owes that much less, and the line is made.
+-- The next number is given, the patron owes this amount now, and the line is made.
+abbrev pub posted : MetaRow → PatronRow → ℕ → Sort → ℕ → ℕ → List RowChange
+posted meta row patron sort owed amount =
+    PutMeta (record meta { next_line = meta.next_line + 1 }) ∷ PutPatron (record row { owed = owed }) ∷ PutLine (new_line meta patron sort amount) ∷ []
+
+-- The patron owes that much less.
 abbrev pub settled : MetaRow → Option PatronRow → ℕ → Sort → ℕ → List RowChange
-settled meta (Some row) patron sort amount =
-    PutMeta (record meta { next_line = meta.next_line + 1 }) ∷ PutPatron (record row { owed = row.owed - amount })
-    ∷ PutLine (new_line meta patron sort amount) ∷ []
+settled meta (Some row) patron sort amount = posted meta row patron sort (row.owed - amount) amount
 settled meta None patron sort amount = []
 
 abbrev pub settle_rows : View → ℕ → Sort → ℕ → List RowChange

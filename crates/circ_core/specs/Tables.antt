@@ -1,10 +1,11 @@
 -- The tables after row changes.
 use Rattle.std.specs.Prelude.{◌≡◌, true, false, List, [], ◌∷◌, Option, Some, None}
-use Rattle.terms.specs.Pictures.{Picture, put, put_pair}
+use Rattle.terms.specs.Pictures.{Picture, put, put_pair, put_thing}
 use Rattle.circ_core.specs.declared.changes.RowChange.{RowChange}
 use Rattle.circ_core.specs.declared.changes.RowChange.TheVariants.{PutMeta, PutBranch, PutClosedDay, TakeClosedDay, PutKind, PutRule}
 use Rattle.circ_core.specs.declared.changes.RowChange.TheVariants.{PutPatron, PutTitle, PutCopy, PutLoan, PutHold, PutTransit, TakeTransit}
 use Rattle.circ_core.specs.declared.changes.RowChange.TheVariants.{PutLine}
+use Rattle.circ_core.specs.declared.changes.RowChange.TheVariants.{PutBarcode, TakeBarcode, PutNote}
 
 -- The tables after one change: one row of one table is put whole, or removed, by its key.
 abbrev pub change : RowChange → Picture → Picture
@@ -22,6 +23,9 @@ change (PutHold r) P = record P { holds = put P.holds r.hold (Some r) }
 change (PutTransit r) P = record P { transits = put P.transits r.copy (Some r) }
 change (TakeTransit copy) P = record P { transits = put P.transits copy None }
 change (PutLine r) P = record P { lines = put P.lines r.line (Some r) }
+change (PutBarcode r) P = record P { barcodes = put_thing P.barcodes r.thing (Some r) }
+change (TakeBarcode thing) P = record P { barcodes = put_thing P.barcodes thing None }
+change (PutNote r) P = record P { notes = put P.notes r.line (Some r) }
 
 -- The tables after the changes, in order.
 abbrev pub changed : List RowChange → Picture → Picture

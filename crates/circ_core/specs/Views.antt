@@ -17,6 +17,9 @@ use Rattle.terms.specs.declared.command.Command.TheVariants.{BeginDay, Branch, W
 use Rattle.terms.specs.declared.command.Command.TheVariants.{SetCardKey, AmendPatron, AmendBranch, AmendTitle, AmendCopy, Rehome}
 use Rattle.terms.specs.declared.command.Command.TheVariants.{Renew, PlaceHold, CancelHold, Unshelve, UnshelveCancelled, Missing, Withdraw}
 use Rattle.terms.specs.declared.command.Command.TheVariants.{CloseDay, OpenDay, Pay, Waive, Page, Ask}
+use Rattle.terms.specs.declared.command.Command.TheVariants.{CopyBarcode, PatronBarcode, DropBarcode, Charge, PayAt}
+use Rattle.terms.specs.declared.row.Thing.{Thing}
+use Rattle.terms.specs.declared.row.BarcodeRow.{BarcodeRow}
 use Rattle.terms.specs.Pictures.{Picture}
 use Rattle.model.specs.History.{has_begun}
 use Rattle.circ_core.specs.declared.views.View.{View}
@@ -76,6 +79,11 @@ pub record InLine (P : Picture) (title hold : ℕ) (row : HoldRow) : Type 0 wher
 abbrev pub IsFirstOf : Picture → ℕ → Option HoldRow → Type 0
 IsFirstOf P title (Some row) = InLine P title row.hold row × ((h : ℕ) (r : HoldRow) → InLine P title h r → row.hold ≤ h)
 IsFirstOf P title None = (h : ℕ) (r : HoldRow) → InLine P title h r → ⊥
+
+-- The copy or the patron that has the barcode, or none if nothing has it.
+abbrev pub IsThingOf : Picture → List ℕ → Option Thing → Type 0
+IsThingOf P barcode (Some thing) = P.barcodes thing ≡ Some (record { thing = thing; barcode = barcode })
+IsThingOf P barcode None = (t : Thing) (r : BarcodeRow) → P.barcodes t ≡ Some r → r.barcode ≡ barcode → ⊥
 
 -- ---- rows that are counted
 
@@ -161,6 +169,7 @@ empty_view = record {
   hold = None;
   coming = None;
   first = None;
+  labelled = None;
   open_loans = 0;
   own_holds = 0;
   active_holds = 0;
@@ -211,6 +220,22 @@ pub record IsClosedDayView (P : Picture) (b : ℕ) (rows : View) : Type 0 where
 pub record IsAccountView (P : Picture) (p : ℕ) (rows : View) : Type 0 where
   pub meta : rows.meta ≡ P.meta
   pub patron : rows.patron ≡ P.patrons p
+
+-- The patron, the branch and the next numbers.
+pub record IsCounterView (P : Picture) (p b : ℕ) (rows : View) : Type 0 where
+  pub meta : rows.meta ≡ P.meta
+  pub patron : rows.patron ≡ P.patrons p
+  pub branch : rows.branch ≡ P.branches b
+
+-- The copy, and what has the barcode.
+pub record IsCopyBarcodeView (P : Picture) (c : ℕ) (barcode : List ℕ) (rows : View) : Type 0 where
+  pub copy : rows.copy ≡ P.copies c
+  pub labelled : IsThingOf P barcode rows.labelled
+
+-- The patron, and what has the barcode.
+pub record IsPatronBarcodeView (P : Picture) (p : ℕ) (barcode : List ℕ) (rows : View) : Type 0 where
+  pub patron : rows.patron ≡ P.patrons p
+  pub labelled : IsThingOf P barcode rows.labelled
 
 -- The rows that a renewal needs.
 pub record IsRenewView (P : Picture) (l : ℕ) (rows : View) : Type 0 where
@@ -294,6 +319,9 @@ IsViewOf P (AmendBranch branch pickup name) rows = rows.branch ≡ P.branches br
 IsViewOf P (AmendTitle title text) rows = rows.title ≡ P.titles title
 IsViewOf P (AmendCopy copy kind price) rows = rows.copy ≡ P.copies copy
 IsViewOf P (Rehome copy branch) rows = IsRehomeView P copy branch rows
+IsViewOf P (CopyBarcode copy barcode) rows = IsCopyBarcodeView P copy barcode rows
+IsViewOf P (PatronBarcode patron barcode) rows = IsPatronBarcodeView P patron barcode rows
+IsViewOf P (DropBarcode barcode) rows = IsThingOf P barcode rows.labelled
 IsViewOf P (CheckOut patron copy branch) rows = IsCheckOutView P patron copy branch rows
 IsViewOf P (CheckIn copy branch) rows = IsCheckInView P copy branch rows
 IsViewOf P (Renew loan) rows = IsRenewView P loan rows
@@ -305,6 +333,8 @@ IsViewOf P (Missing copy) rows = IsMissingView P copy rows
 IsViewOf P (Withdraw copy) rows = IsCopyView P copy rows
 IsViewOf P (Pay patron amount) rows = IsAccountView P patron rows
 IsViewOf P (Waive patron amount) rows = IsAccountView P patron rows
+IsViewOf P (Charge patron amount branch text) rows = IsCounterView P patron branch rows
+IsViewOf P (PayAt patron amount branch) rows = IsCounterView P patron branch rows
 IsViewOf P (Page patron) rows = rows.patron ≡ P.patrons patron
 IsViewOf P (Ask question) rows = Unit {0}
 
@@ -333,6 +363,9 @@ HasOnly (Rehome copy branch) rows = rows ≡ record empty_view {
   transit = rows.transit;
   hold = rows.hold;
 }
+HasOnly (CopyBarcode copy barcode) rows = rows ≡ record empty_view { copy = rows.copy; labelled = rows.labelled }
+HasOnly (PatronBarcode patron barcode) rows = rows ≡ record empty_view { patron = rows.patron; labelled = rows.labelled }
+HasOnly (DropBarcode barcode) rows = rows ≡ record empty_view { labelled = rows.labelled }
 HasOnly (CheckOut patron copy branch) rows = rows ≡ record empty_view {
   meta = rows.meta;
   calendar = rows.calendar;
@@ -408,5 +441,7 @@ HasOnly (Missing copy) rows = rows ≡ record empty_view {
 HasOnly (Withdraw copy) rows = rows ≡ record empty_view { copy = rows.copy; loan = rows.loan; transit = rows.transit; hold = rows.hold }
 HasOnly (Pay patron amount) rows = rows ≡ record empty_view { meta = rows.meta; patron = rows.patron }
 HasOnly (Waive patron amount) rows = rows ≡ record empty_view { meta = rows.meta; patron = rows.patron }
+HasOnly (Charge patron amount branch text) rows = rows ≡ record empty_view { meta = rows.meta; patron = rows.patron; branch = rows.branch }
+HasOnly (PayAt patron amount branch) rows = rows ≡ record empty_view { meta = rows.meta; patron = rows.patron; branch = rows.branch }
 HasOnly (Page patron) rows = rows ≡ record empty_view { patron = rows.patron }
 HasOnly (Ask question) rows = rows ≡ empty_view

@@ -8,7 +8,8 @@ ghost use Rattle.circ_core.specs.Branch.{branch_differs, branch_checks, branch_r
 use crate::changes::{Changes, Decision, RowChange, done};
 use crate::checks::first_refusal;
 use crate::limits::is_small;
-use terms::{BranchId, BranchPut, BranchRow, Days, LONGEST_PICKUP, Name, Refusal, Weekdays};
+use calendar::Weekdays;
+use terms::{BranchId, BranchPut, BranchRow, Days, LONGEST_PICKUP, Name, Refusal};
 
 fn differs_branch(row: &Option<BranchRow>, pickup: Days, name: &Name) -> bool
     ensures { result ≡ branch_differs row.now pickup name.now }

@@ -8,8 +8,8 @@ ghost use Rattle.circ_core.specs.declared.changes.RowChange.{RowChange};
 use arrayvec::ArrayVec;
 use std::marker::Model;
 use terms::{
-    BranchId, BranchPut, CopyId, CopyRow, Day, HoldRow, KindRow, LineRow, LoanRow, MetaRow,
-    PatronPut, Reply, RuleRow, TitlePut, TransitRow,
+    BarcodePut, BranchId, BranchPut, CopyId, CopyRow, Day, HoldRow, KindRow, LineRow, LoanRow,
+    MetaRow, NotePut, PatronPut, Reply, RuleRow, Thing, TitlePut, TransitRow,
 };
 
 /// A row change: put or removed by its key.
@@ -29,6 +29,9 @@ pub enum RowChange<'a> {
     PutTransit(TransitRow),
     TakeTransit(CopyId),
     PutLine(LineRow),
+    PutBarcode(BarcodePut<'a>),
+    TakeBarcode(Thing),
+    PutNote(NotePut<'a>),
 }
 
 /// The content of an unused place.

@@ -13,6 +13,7 @@ use crate::amend_branch::amend_branch;
 use crate::amend_copy::amend_copy;
 use crate::amend_patron::{amend_patron, set_card_key};
 use crate::amend_title::amend_title;
+use crate::barcode::{copy_barcode, drop_barcode, patron_barcode};
 use crate::begin_day::begin_day;
 use crate::branch::add_branch;
 use crate::cancel_hold::cancel_hold;
@@ -20,6 +21,7 @@ use crate::changes::{Changes, Decision, done};
 use crate::check_in::check_in;
 use crate::check_out::check_out;
 use crate::close_day::{close_day, open_day};
+use crate::counter::{charge, pay_at};
 use crate::grace::set_grace;
 use crate::kind::set_kind;
 use crate::missing::declare_missing;
@@ -119,6 +121,9 @@ fn decide_on_rows<'a>(view: &'a View, command: &'a Command) -> Result<Decision<'
         Command::AmendTitle { text, .. } => amend_title(&view.title, text),
         Command::AmendCopy { kind, price, .. } => amend_copy(&view.copy, *kind, *price),
         Command::Rehome { branch, .. } => rehome(view, *branch),
+        Command::CopyBarcode { copy, barcode } => copy_barcode(view, *copy, barcode),
+        Command::PatronBarcode { patron, barcode } => patron_barcode(view, *patron, barcode),
+        Command::DropBarcode { .. } => drop_barcode(view),
         Command::CheckOut {
             patron,
             copy,
@@ -139,6 +144,17 @@ fn decide_on_rows<'a>(view: &'a View, command: &'a Command) -> Result<Decision<'
         Command::Withdraw { .. } => withdraw(view),
         Command::Pay { patron, amount } => settle(view, *patron, Sort::Payment, *amount),
         Command::Waive { patron, amount } => settle(view, *patron, Sort::Waiver, *amount),
+        Command::Charge {
+            patron,
+            amount,
+            branch,
+            text,
+        } => charge(view, *patron, *amount, *branch, text),
+        Command::PayAt {
+            patron,
+            amount,
+            branch,
+        } => pay_at(view, *patron, *amount, *branch),
         Command::Page { .. } => page(&view.patron),
         Command::Ask(_) => Ok(done(Changes::none())),
     }

@@ -6,7 +6,7 @@ ghost use Rattle.circ_core.specs.Views.{empty_view};
 use calendar::Calendar;
 use terms::{
     BranchRow, CopyRow, Count, Day, HoldId, HoldRow, KindRow, LineId, LoanId, LoanRow, MetaRow,
-    PatronRow, RuleRow, TitleRow, TransitRow,
+    PatronRow, RuleRow, Thing, TitleRow, TransitRow,
 };
 
 /// The rows that a command needs: at most two calendars, twelve rows and three counts, and never a
@@ -41,6 +41,8 @@ pub struct View {
     pub coming: Option<HoldRow>,
     /// The first hold in the queue for the copy's title.
     pub first: Option<HoldRow>,
+    /// The copy or the patron that has the barcode that is named.
+    pub labelled: Option<Thing>,
     /// The number of the patron's open loans.
     pub open_loans: Count,
     /// The number of the patron's active holds on the title.
@@ -75,6 +77,7 @@ impl View {
             hold: None,
             coming: None,
             first: None,
+            labelled: None,
             open_loans: Count::new(0),
             own_holds: Count::new(0),
             active_holds: Count::new(0),
