@@ -20,11 +20,12 @@ use Rattle.sqlite_rules.specs.Lists.{Has}
 use Rattle.sql_maps.proofs.OrderLemmas.{batch_sorted}
 use Rattle.sql_maps.proofs.Words.{in_order_up_to}
 use Rattle.circ_tables.specs.Paired.{by_pair}
-use Rattle.circ_tables.specs.Shape.{schema, closed_days, closed_days_place, rules, rules_place, kept, kept_place}
+use Rattle.circ_tables.specs.Shape.{schema, closed_days, closed_days_place, rules, rules_place, kept, kept_place, barcodes, barcodes_place}
 use Rattle.circ_tables.specs.Texts.{names_of}
 use Rattle.circ_tables.specs.Selections.{is_after, is_any, is_kept_after, is_second_after}
 use Rattle.circ_tables.specs.declared.by_number.TheConstants.{BATCH_ROWS}
 use Rattle.circ_tables.specs.declared.kept.TheConstants.{FIRST_KEPT_TEXT, KEPT_AFTER_TEXT, KEPT_PAST_TEXT}
+use Rattle.circ_tables.specs.declared.barcodes.TheConstants.{FIRST_BARCODES_TEXT, BARCODES_AFTER_TEXT, BARCODES_PAST_TEXT}
 use Rattle.circ_tables.specs.declared.closed_days.TheConstants.{CLOSED_DAYS_AFTER_TEXT}
 use Rattle.circ_tables.specs.declared.rules.TheConstants.{RULES_AFTER_TEXT}
 use Rattle.circ_tables.proofs.ListLemmas.{pair_tells, pair_below}
@@ -158,3 +159,68 @@ rules_after_found a b =
     (λ x y p q _ _ tie. pair_tells (column x 1) (column x 2) (column y 1) (column y 2) p q tie)
     (λ x y less. pair_below (column x 1) (column x 2) (column y 1) (column y 2) less) (λ l. refl) schema rules_place
     (names_of rules) rules_after_text refl rules_after_is.0 rules_after_is.1 rules_after_is.2
+
+-- ---- barcodes, by sorts and numbers
+
+abbrev first_barcodes_text : List ℕ
+first_barcodes_text = FIRST_BARCODES_TEXT.now
+
+first_barcodes_is : (command_of (understood schema first_barcodes_text) ≡ Select
+    (record { lets = []; body = in_order_up_to barcodes.tree first_kept_tests (each_column 1 barcodes) by_pair (lit (Int (pos BATCH_ROWS))) })
+    (names_of barcodes)) × IsPlain (understood schema first_barcodes_text) × (reads_listing schema first_barcodes_text ≡ false)
+unfolding understood everything
+first_barcodes_is = (refl, (refl, refl), refl)
+
+pub first_barcodes_plain : (s : Schema) → s ≡ schema → IsPlain (understood s first_barcodes_text)
+first_barcodes_plain s e = subst (λ z. IsPlain (understood z first_barcodes_text)) (sym e) first_barcodes_is.1
+
+pub first_barcodes_found : (old new : State) (rows : List Row) → Shown first_barcodes_text ([]) old new rows
+    → (maps : Maps) → Holds schema old.now maps
+    → FirstRowsBy PairBelow BATCH_ROWS (maps barcodes_place) is_any rows × IsUnchanged old new
+first_barcodes_found =
+    batch_sorted barcodes first_kept_tests by_pair ([]) is_any (λ r. refl) (λ r. refl) PairBelow BATCH_ROWS
+    (λ x y p q _ _ tie. pair_tells (column x 1) (column x 2) (column y 1) (column y 2) p q tie)
+    (λ x y less. pair_below (column x 1) (column x 2) (column y 1) (column y 2) less) (λ l. refl) schema barcodes_place
+    (names_of barcodes) first_barcodes_text refl first_barcodes_is.0 first_barcodes_is.1 first_barcodes_is.2
+
+abbrev barcodes_after_text : List ℕ
+barcodes_after_text = BARCODES_AFTER_TEXT.now
+
+barcodes_after_is : (command_of (understood schema barcodes_after_text) ≡ Select
+    (record { lets = []; body = in_order_up_to barcodes.tree second_after_tests (each_column 1 barcodes) by_pair (lit (Int (pos BATCH_ROWS))) })
+    (names_of barcodes)) × IsPlain (understood schema barcodes_after_text) × (reads_listing schema barcodes_after_text ≡ false)
+unfolding understood everything
+barcodes_after_is = (refl, (refl, refl), refl)
+
+pub barcodes_after_plain : (s : Schema) → s ≡ schema → IsPlain (understood s barcodes_after_text)
+barcodes_after_plain s e = subst (λ z. IsPlain (understood z barcodes_after_text)) (sym e) barcodes_after_is.1
+
+pub barcodes_after_found : (a b : ℕ) → (old new : State) (rows : List Row) → Shown barcodes_after_text (Int (pos a) ∷ Int (pos b) ∷ []) old new rows
+    → (maps : Maps) → Holds schema old.now maps
+    → FirstRowsBy PairBelow BATCH_ROWS (maps barcodes_place) (is_second_after a b) rows × IsUnchanged old new
+barcodes_after_found a b =
+    batch_sorted barcodes second_after_tests by_pair (Int (pos a) ∷ Int (pos b) ∷ []) (is_second_after a b) (λ r. refl) (λ r. refl) PairBelow BATCH_ROWS
+    (λ x y p q _ _ tie. pair_tells (column x 1) (column x 2) (column y 1) (column y 2) p q tie)
+    (λ x y less. pair_below (column x 1) (column x 2) (column y 1) (column y 2) less) (λ l. refl) schema barcodes_place
+    (names_of barcodes) barcodes_after_text refl barcodes_after_is.0 barcodes_after_is.1 barcodes_after_is.2
+
+abbrev barcodes_past_text : List ℕ
+barcodes_past_text = BARCODES_PAST_TEXT.now
+
+barcodes_past_is : (command_of (understood schema barcodes_past_text) ≡ Select
+    (record { lets = []; body = in_order_up_to barcodes.tree kept_past_tests (each_column 1 barcodes) by_pair (lit (Int (pos BATCH_ROWS))) })
+    (names_of barcodes)) × IsPlain (understood schema barcodes_past_text) × (reads_listing schema barcodes_past_text ≡ false)
+unfolding understood everything
+barcodes_past_is = (refl, (refl, refl), refl)
+
+pub barcodes_past_plain : (s : Schema) → s ≡ schema → IsPlain (understood s barcodes_past_text)
+barcodes_past_plain s e = subst (λ z. IsPlain (understood z barcodes_past_text)) (sym e) barcodes_past_is.1
+
+pub barcodes_past_found : (a : ℕ) → (old new : State) (rows : List Row) → Shown barcodes_past_text (Int (pos a) ∷ []) old new rows
+    → (maps : Maps) → Holds schema old.now maps
+    → FirstRowsBy PairBelow BATCH_ROWS (maps barcodes_place) (is_after a) rows × IsUnchanged old new
+barcodes_past_found a =
+    batch_sorted barcodes kept_past_tests by_pair (Int (pos a) ∷ []) (is_after a) (λ r. refl) (λ r. refl) PairBelow BATCH_ROWS
+    (λ x y p q _ _ tie. pair_tells (column x 1) (column x 2) (column y 1) (column y 2) p q tie)
+    (λ x y less. pair_below (column x 1) (column x 2) (column y 1) (column y 2) less) (λ l. refl) schema barcodes_place
+    (names_of barcodes) barcodes_past_text refl barcodes_past_is.0 barcodes_past_is.1 barcodes_past_is.2

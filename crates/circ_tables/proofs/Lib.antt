@@ -6,6 +6,7 @@ pub mod ColumnLemmas
 pub mod FoundLemmas
 pub mod QueryLemmas
 pub mod LineLemmas
+pub mod LabelLemmas
 pub mod TurnLemmas
 pub mod TitleLemmas
 pub mod ShelfLemmas

@@ -111,13 +111,15 @@ free_all : (n : ℕ) → list_all is_free (schema_at n).tables ≡ true
 free_all zero = refl
 free_all (suc zero) = refl
 free_all (suc (suc zero)) = refl
-free_all (suc (suc (suc n))) = refl
+free_all (suc (suc (suc zero))) = refl
+free_all (suc (suc (suc (suc n)))) = refl
 
 past_all : (n : ℕ) → list_all aims_past (schema_at n).indexes ≡ true
 past_all zero = refl
 past_all (suc zero) = refl
 past_all (suc (suc zero)) = refl
-past_all (suc (suc (suc n))) = refl
+past_all (suc (suc (suc zero))) = refl
+past_all (suc (suc (suc (suc n)))) = refl
 
 pub fixed_in : (n at : ℕ) (t : sql.Table) → IsNumbered (schema_at n) at t → Fixed (schema_at n) at t
 fixed_in n at t = fixed_of (schema_at n) at t (free_all n) (past_all n)

@@ -22,7 +22,7 @@ use Rattle.sql_maps.proofs.ReadLemmas.{get_row}
 use Rattle.sql_maps.proofs.WriteLemmas.{Fills}
 use Rattle.circ_tables.specs.Paired.{IsPaired, by_key, by_pair, put_terms, put_shows}
 use Rattle.circ_tables.specs.Selections.{is_any}
-use Rattle.circ_tables.specs.Shape.{closed_days, rules, kept}
+use Rattle.circ_tables.specs.Shape.{closed_days, rules, kept, barcodes}
 use Rattle.circ_tables.specs.Texts.{names_of, put_text, take_text, get_text, all_text}
 use Rattle.circ_tables.proofs.ListLemmas.{pair_tells, pair_below}
 
@@ -99,4 +99,10 @@ pub kept_fills : (a : ℤ) (b c d : List ℕ)
     (Int a ∷ Text b ∷ Text c ∷ Text d ∷ [])
 kept_fills a b c d = double_fills kept (Int a) (Text b) (Text c ∷ Text d ∷ []) (put_terms kept)
     (put_shows kept) 5 4 refl refl refl refl refl refl (λ there rest. refl) (λ there r new p q. rw (p, q) refl) (λ there r new. refl)
+    (λ id. refl)
+
+pub barcode_fills : (a b : ℤ) (c : List ℕ)
+    → Fills barcodes (Int a ∷ Int b ∷ Text c ∷ []) (put_terms barcodes) (put_shows barcodes) 4 3 (Int a ∷ Int b ∷ []) (Int a ∷ Int b ∷ Text c ∷ [])
+barcode_fills a b c = double_fills barcodes (Int a) (Int b) (Text c ∷ []) (put_terms barcodes)
+    (put_shows barcodes) 4 3 refl refl refl refl refl refl (λ there rest. refl) (λ there r new p q. rw (p, q) refl) (λ there r new. refl)
     (λ id. refl)

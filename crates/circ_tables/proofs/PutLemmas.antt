@@ -19,7 +19,8 @@ pub apart : (n : ℕ) → are_apart (schema_at n).tables ≡ true
 apart zero = refl
 apart (suc zero) = refl
 apart (suc (suc zero)) = refl
-apart (suc (suc (suc n))) = refl
+apart (suc (suc (suc zero))) = refl
+apart (suc (suc (suc (suc n)))) = refl
 
 pub puts_of : {S T : Type 0} {text : List ℕ} {given : Row} {g : Ghosts S} {old new : Transaction S} {result : Result T Fault} (since : ℕ)
     (change : Maps → Maps) (Needs : Type 0) (draw : Picture → Picture)

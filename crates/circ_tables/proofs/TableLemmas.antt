@@ -14,6 +14,7 @@ use Rattle.circ_tables.specs.ClosedDays.{closed_days}
 use Rattle.circ_tables.specs.Rules.{rules}
 use Rattle.circ_tables.specs.RulesOfSchema1.{rules1}
 use Rattle.circ_tables.specs.Kept.{kept}
+use Rattle.circ_tables.specs.Barcodes.{barcodes}
 use Rattle.circ_tables.proofs.ShownLemmas.{days_encoded}
 
 -- Of a table it is so under each picture within its limits.
@@ -55,3 +56,9 @@ kept_within maps P is legal k v e =
     let it = within kept_cells IsKeptRow (P.kept key.0.0 key.0.1) (λ r there. (legal.kept key.0.0 key.0.1 r there).2) v
     (sym e ∙ ap (maps kept.place) key.2 ∙ is.kept.there key.0 key.1) in
     (it.0, (it.1.0, it.1.1, texts_of it.0 it.1), it.2)
+
+pub barcodes_within : IsWithin barcodes
+barcodes_within maps P is legal k v e =
+    let key = is.barcodes.only k v e in
+    within barcodes.cells barcodes.IsLegal (P.barcodes key.0) (λ r there. (legal.barcodes key.0 r there).1) v
+    (sym e ∙ ap (maps barcodes.place) key.2 ∙ is.barcodes.there key.0 key.1)

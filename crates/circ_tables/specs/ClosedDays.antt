@@ -51,5 +51,5 @@ texts_are more others calm aimed = record {
 
 pub closed_days_are : (n : ℕ) → shape.HasTable 1 n → IsPaired (shape.schema_at n) shape.closed_days_place shape.closed_days
 closed_days_are = in_each shape.closed_days_place shape.closed_days texts_are
-    (since_first (λ n. IsAimed (shape.schema_at n) shape.closed_days) (λ r new. or_false _) (λ r new. or_false _)
+    (since_first (λ n. IsAimed (shape.schema_at n) shape.closed_days) (λ r new. or_false _) (λ r new. or_false _) (λ r new. or_false _)
     (λ r new. or_false _))

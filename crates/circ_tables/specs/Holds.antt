@@ -67,7 +67,8 @@ pub holds_are : IsNumberTable holds (λ r. r.hold)
 holds_are = record {
   newest = has_second;
   texts = since_second (λ n. IsNumbered (shape.schema_at n) shape.holds_place shape.holds) (texts_are [] [])
-      (texts_are (shape.tables_after shape.second 3) (shape.indexes_after shape.second 3));
+      (texts_are (shape.tables_after shape.second 3) (shape.indexes_after shape.second 3))
+      (texts_are (shape.tables_after shape.second 4) (shape.indexes_after shape.second 4));
   keyed = λ k. refl;
   first_cell = λ r. refl;
   from_one = λ r legal. legal.0.0;

@@ -52,4 +52,5 @@ texts_are more others calm aimed = record {
 
 pub kept_are : (n : ℕ) → shape.HasTable 1 n → IsPaired (shape.schema_at n) shape.kept_place shape.kept
 kept_are = in_each shape.kept_place shape.kept texts_are
-    (since_first (λ n. IsAimed (shape.schema_at n) shape.kept) (λ r new. or_false _) (λ r new. or_false _) (λ r new. or_false _))
+    (since_first (λ n. IsAimed (shape.schema_at n) shape.kept) (λ r new. or_false _) (λ r new. or_false _) (λ r new. or_false _)
+    (λ r new. or_false _))

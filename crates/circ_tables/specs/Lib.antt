@@ -24,5 +24,7 @@ pub mod HoldsOfSchema1
 pub mod Transits
 pub mod Lines
 pub mod Kept
+pub mod Barcodes
+pub mod Notes
 pub mod TableMaps
 pub mod TableSchemas

@@ -11,7 +11,7 @@ use Rattle.terms.specs.Limits.{IsLine}
 use Rattle.terms.specs.Pictures.{put}
 use Rattle.terms.specs.declared.row.LineRow.{LineRow}
 use Rattle.terms.specs.declared.row.Sort.{Sort}
-use Rattle.terms.specs.declared.row.Sort.TheVariants.{Fine, Price, Payment, Waiver}
+use Rattle.terms.specs.declared.row.Sort.TheVariants.{Fine, Price, Payment, Waiver, Charge}
 use Rattle.circ_tables.specs.Cells.{number_key, sort_number, line_cells}
 use Rattle.circ_tables.specs.Encoding.{IsEncoded, Any}
 use Rattle.circ_tables.specs.TableMaps.{all_held, to_list, from_list, with_held}
@@ -36,13 +36,15 @@ abbrev pub sort_of : ℕ → Sort
 sort_of zero = Fine
 sort_of (suc zero) = Price
 sort_of (suc (suc zero)) = Payment
-sort_of _ = Waiver
+sort_of (suc (suc (suc zero))) = Waiver
+sort_of _ = Charge
 
 sort_back : (s : Sort) → sort_of (sort_number s) ≡ s
 sort_back Fine = refl
 sort_back Price = refl
 sort_back Payment = refl
 sort_back Waiver = refl
+sort_back Charge = refl
 
 texts_are : (more : List SqlTable) (others : List Index) → IsNumbered (grown more others) shape.lines_place shape.lines
 unfolding understood everything

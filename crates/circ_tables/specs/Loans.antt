@@ -1,9 +1,11 @@
 -- The table of loans, which exists from schema 3 on.
 use Rattle.std.proofs.Common.{ap}
-use Rattle.std.specs.Prelude.{ℕ, pos, true, drop, refl, ◌&&◌}
+use Rattle.std.specs.Prelude.{ℕ, pos, true, List, [], drop, refl, ◌&&◌}
 use Rattle.sqlite.specs.Kind.TheVariants.{Integer}
 use Rattle.sqlite.specs.Listing.{understood}
 use Rattle.sqlite.specs.Order.{column}
+use Rattle.sqlite.specs.Table.{Table as SqlTable}
+use Rattle.sqlite_schema.specs.declared.schema.Index.{Index}
 use Rattle.sqlite_tied.specs.Compute.{everything}
 use Rattle.sql_maps.proofs.FillLemmas.{single_fills, suits_kind}
 use Rattle.terms.specs.Limits.{IsLoan}
@@ -12,7 +14,7 @@ use Rattle.terms.specs.declared.row.LoanRow.{LoanRow}
 use Rattle.circ_tables.specs.Cells.{number, number_key, loan_cells}
 use Rattle.circ_tables.specs.Encoding.{IsEncoded, Any}
 use Rattle.circ_tables.specs.TableMaps.{all_held, to_list, from_list, with_held}
-use Rattle.circ_tables.specs.Numbered.{IsNumbered, IsNumberTable, put_terms, put_shows, nat_of, option_of, option_back, optional_suits}
+use Rattle.circ_tables.specs.Numbered.{IsNumbered, IsNumberTable, grown_from, put_terms, put_shows, nat_of, option_of, option_back, optional_suits}
 use Rattle.circ_tables.specs.Reading.{Table}
 use Rattle.circ_tables.specs.Shape as shape
 use Rattle.circ_tables.specs.TableSchemas.{has_third, since_third}
@@ -29,9 +31,9 @@ loans = record {
   set = λ P k row. record P { loans = put P.loans k row };
 }
 
-texts_are : IsNumbered shape.schema shape.loans_place shape.loans
+texts_are : (more : List SqlTable) (others : List Index) → IsNumbered (grown_from shape.third more others) shape.loans_place shape.loans
 unfolding understood everything
-texts_are = record {
+texts_are more others = record {
   listed = refl;
   primary = refl;
   uncounted = refl;
@@ -48,7 +50,8 @@ texts_are = record {
 pub loans_are : IsNumberTable loans (λ r. r.loan)
 loans_are = record {
   newest = has_third;
-  texts = since_third (λ n. IsNumbered (shape.schema_at n) shape.loans_place shape.loans) texts_are;
+  texts = since_third (λ n. IsNumbered (shape.schema_at n) shape.loans_place shape.loans) (texts_are [] [])
+      (texts_are (shape.tables_after shape.third 4) (shape.indexes_after shape.third 4));
   keyed = λ k. refl;
   first_cell = λ r. refl;
   from_one = λ r legal. legal.0.0;

@@ -18,7 +18,7 @@ use Rattle.sqlite_schema.specs.declared.command.Conflict.TheVariants.{Abort}
 use Rattle.sqlite_schema.specs.declared.schema.Index.{Index}
 use Rattle.sqlite_sql.specs.declared.ops.BinaryOp.TheVariants.{Compare}
 use Rattle.sqlite_sql.specs.declared.ops.CompareOp.TheVariants.{Eq, Ge}
-use Rattle.sqlite.specs.Kind.TheVariants.{Integer}
+use Rattle.sqlite.specs.Kind.TheVariants.{Integer, Text as TextKind}
 use Rattle.sqlite_value.specs.declared.value.Value.{Value}
 use Rattle.sqlite_value.specs.declared.keys.Collation.TheVariants.{Binary}
 use Rattle.sqlite_value.specs.declared.keys.Key.{Key}
@@ -34,7 +34,7 @@ use Rattle.circ_tables.specs.Texts.{names_of, put_text, take_text, get_text, all
 use Rattle.terms.specs.Limits.{InLimits}
 use Rattle.terms.specs.declared.limits.TheConstants.{SCHEMA}
 use Rattle.terms.specs.Pictures.{Picture, put as put_in}
-use Rattle.circ_tables.specs.Cells.{number, optional, number_key}
+use Rattle.circ_tables.specs.Cells.{number, optional, optional_text, number_key}
 use Rattle.circ_tables.specs.Encoding.{Encodes, IsEncoded, Any, with_map}
 use Rattle.circ_tables.specs.Reading as typed
 use Rattle.circ_tables.specs.Selections.{least_after}
@@ -144,7 +144,8 @@ pub schema_grown : (n : ℕ) → schema_at n ≡ grown (later_tables n) (later_i
 schema_grown zero = refl
 schema_grown (suc zero) = refl
 schema_grown (suc (suc zero)) = refl
-schema_grown (suc (suc (suc n))) = refl
+schema_grown (suc (suc (suc zero))) = refl
+schema_grown (suc (suc (suc (suc n)))) = refl
 
 -- So what holds of each schema that does holds of every numbered one.
 pub in_each : (at : ℕ) (t : Table) → ((more : List Table) (others : List Index) → IsNumbered (grown more others) at t) → (n : ℕ)
@@ -171,3 +172,15 @@ option_back (Some n) = refl
 pub optional_suits : (o : Option ℕ) → suits_kind Integer (optional o) ≡ true
 optional_suits None = refl
 optional_suits (Some n) = refl
+
+abbrev pub option_text_of : Value → Option (List ℕ)
+option_text_of (Text t) = Some t
+option_text_of _ = None
+
+pub option_text_back : (o : Option (List ℕ)) → option_text_of (optional_text o) ≡ o
+option_text_back None = refl
+option_text_back (Some t) = refl
+
+pub optional_text_suits : (o : Option (List ℕ)) → suits_kind TextKind (optional_text o) ≡ true
+optional_text_suits None = refl
+optional_text_suits (Some t) = refl

@@ -74,6 +74,7 @@ IsAimed s t = (r new : Row) → conflicts (Some t.primary) s.indexes t new r ≡
 
 pub are_calm : (n : ℕ) → HasTable 1 n → IsCalm (schema_at n)
 are_calm = since_first (λ n. IsCalm (schema_at n)) (λ keys depth tree olds news. refl) (λ keys depth tree olds news. refl) (λ keys depth tree olds news. refl)
+    (λ keys depth tree olds news. refl)
 
 -- What holds of the texts in each schema that begins with the tables of step 1 holds in every numbered
 -- schema.

@@ -52,4 +52,5 @@ texts_are more others calm aimed = record {
 
 pub rules1_are : (n : ℕ) → shape.HasTable 1 n → IsPaired (shape.schema_at n) shape.rules1_place shape.rules1
 rules1_are = in_each shape.rules1_place shape.rules1 texts_are
-    (since_first (λ n. IsAimed (shape.schema_at n) shape.rules1) (λ r new. or_false _) (λ r new. or_false _) (λ r new. or_false _))
+    (since_first (λ n. IsAimed (shape.schema_at n) shape.rules1) (λ r new. or_false _) (λ r new. or_false _) (λ r new. or_false _)
+    (λ r new. or_false _))

@@ -7,7 +7,7 @@ use Rattle.terms.specs.Pictures.{Picture}
 use Rattle.circ_tables.specs.Encoding.{IsEncoded, Any, Pair, lone, closed, Encodes, with_map}
 use Rattle.circ_tables.specs.Cells.{number_key, pair_key, kept_key, meta_cells, branch_cells, kind_cells, rule_cells, rule1_cells}
 use Rattle.circ_tables.specs.Cells.{patron_cells, title_cells, copy_cells, loan_cells, loan1_cells, hold_cells, hold1_cells, transit_cells}
-use Rattle.circ_tables.specs.Cells.{line_cells, kept_cells}
+use Rattle.circ_tables.specs.Cells.{line_cells, kept_cells, thing_key, barcode_cells, note_cells}
 
 -- What the picture says of the map of each table, in the order of their places.
 abbrev pub all_held : Picture → List (Map → Type 0)
@@ -28,6 +28,8 @@ all_held P =
     ∷ (λ m. IsEncoded Any number_key hold_cells m P.holds)
     ∷ (λ m. IsEncoded Any (λ (k : Pair). pair_key k.0 k.1) rule_cells m (λ k. P.rules k.0 k.1))
     ∷ (λ m. IsEncoded Any number_key loan_cells m P.loans)
+    ∷ (λ m. IsEncoded Any thing_key barcode_cells m P.barcodes)
+    ∷ (λ m. IsEncoded Any number_key note_cells m P.notes)
     ∷ []
 
 -- Each map is as the list says.
@@ -54,7 +56,8 @@ pub ◌⨾◌ : {A B : Type 0} → A → B → A × B
 
 pub to_list : (maps : Maps) (P : Picture) → Encodes maps P → AllHeld (all_held P) maps
 to_list maps P is = is.meta ⨾ is.branches ⨾ is.closed_days ⨾ is.kinds ⨾ is.rules1 ⨾ is.patrons ⨾ is.titles ⨾ is.copies ⨾ is.loans1
-    ⨾ is.holds1 ⨾ is.transits ⨾ is.lines ⨾ is.kept ⨾ is.holds ⨾ is.rules ⨾ is.loans ⨾ tt
+    ⨾ is.holds1 ⨾ is.transits ⨾ is.lines ⨾ is.kept ⨾ is.holds ⨾ is.rules ⨾ is.loans
+    ⨾ is.barcodes ⨾ is.notes ⨾ tt
 
 pub from_list : (maps : Maps) (P : Picture) → AllHeld (all_held P) maps → Encodes maps P
 from_list maps P is =
@@ -75,4 +78,6 @@ from_list maps P is =
       holds = is.1.1.1.1.1.1.1.1.1.1.1.1.1.0;
       rules = is.1.1.1.1.1.1.1.1.1.1.1.1.1.1.0;
       loans = is.1.1.1.1.1.1.1.1.1.1.1.1.1.1.1.0;
+      barcodes = is.1.1.1.1.1.1.1.1.1.1.1.1.1.1.1.1.0;
+      notes = is.1.1.1.1.1.1.1.1.1.1.1.1.1.1.1.1.1.0;
     }
