@@ -1,30 +1,17 @@
 -- The rows of a table read batch by batch.
 use Rattle.std.proofs.Common.{◌≡◌, ℕ, suc, ◌+◌, ◌-◌, ◌<◌, ◌≤◌, ◌⊎◌, inl, inr, Bool, true, false, cond, List, [], ◌∷◌, ◌++◌, length, refl, sym, ap, subst, arith}
-use Rattle.std.specs.Prelude.{Option, Some, None, is_none, option_map, filter, slice_get}
+use Rattle.std.specs.Prelude.{Option, Some, None, option_map, slice_get}
 use Rattle.std.specs.List.{Contains, AllByRecursion}
 use Rattle.std.proofs.lemmas.Bool.{cases_lt}
 use Rattle.std.proofs.lemmas.List.Elements.{Contains-append_left, Contains-append_right, Contains-append_cases}
 use Rattle.sqlite_rules.specs.Lists.{Has}
-use Rattle.sqlite_rules.proofs.ListLemmas.{has_contained, contains_had, all_has, all_from, has_filtered, has_kept}
-use Rattle.terms.specs.declared.row.LoanRow.{LoanRow}
+use Rattle.sqlite_rules.proofs.ListLemmas.{has_contained, contains_had, all_has, all_from}
 use Rattle.circ_tables.specs.declared.by_number.TheConstants.{BATCH_ROWS}
-use Rattle.store.specs.Lists.{AreRows, AreTestedRows, AllPass}
+use Rattle.store.specs.Lists.{AreRows, AllPass}
 use Rattle.terms.specs.Orders.{Rise}
 use Rattle.store.specs.Batches.{AreRowsAfter, AreNumbered}
 
 -- ---- rows in order
-
-pub rises_filtered : {R : Type 0} (number_of : R → ℕ) (test : R → Bool) (rows : List R) → Rise number_of rows → Rise number_of (filter test rows)
-rises_filtered number_of test [] rise = tt
-rises_filtered number_of test (r ∷ rows) rise = go (test r) (rises_filtered number_of test rows rise.1)
-  where
-    above : AllByRecursion (λ s. number_of r < number_of s) (filter test rows)
-    above = all_from (λ s. number_of r < number_of s) (filter test rows)
-        (λ s there. all_has (λ z. number_of r < number_of z) rows s rise.0 (has_filtered test rows s there).0)
-
-    go : (b : Bool) → Rise number_of (filter test rows) → Rise number_of (cond b (r ∷ filter test rows) (filter test rows))
-    go true more = (above, more)
-    go false more = more
 
 rises_joined : {R : Type 0} (number_of : R → ℕ) (rows more : List R) → Rise number_of rows → Rise number_of more
     → ((r s : R) → Has rows r → Has more s → number_of r < number_of s) → Rise number_of (rows ++ more)
@@ -86,22 +73,22 @@ last_there number_of rows n is = go (slice_get rows (length rows - 1)) refl is
 
 -- ---- batch after batch
 
-module _ {R : Type 0} (t : ℕ → Option R) (number_of : R → ℕ) (test : R → Bool) where
-  -- The rows that are kept so far are those up to a number, and there were no more batches than that.
+module _ {R : Type 0} (t : ℕ → Option R) (number_of : R → ℕ) where
+  -- The rows that are read so far are those up to a number, and there were no more batches than that.
   pub record AreSoFar (after batches : ℕ) (kept : List R) : Type 0 where
-    pub rows_are : AreNumbered t number_of → AreRows t number_of (λ r. (test r ≡ true) × (number_of r ≤ after)) kept
+    pub rows_are : AreNumbered t number_of → AreRows t number_of (λ r. number_of r ≤ after) kept
     pub few : batches ≤ after
 
   -- Nothing was read yet.
   pub none_so_far : (after : ℕ) (kept : List R) → after ≡ 0 → kept ≡ [] → AreSoFar after 0 kept
   none_so_far after kept first none = record {
-    rows_are = λ numbered. subst (λ (rows : List R). AreRows t number_of (λ r. (test r ≡ true) × (number_of r ≤ after)) rows) (sym none) (record {
+    rows_are = λ numbered. subst (λ (rows : List R). AreRows t number_of (λ r. number_of r ≤ after) rows) (sym none) (record {
       sound = λ r there. let lt : there.0 < 0 = there.1 in absurd (omega (arith, lt));
       whole = λ n r e passes.
           let it = numbered n r e in
           let same : number_of r ≡ n = it.0 in
           let from : 1 ≤ n = it.1 in
-          let to : number_of r ≤ after = passes.1 in
+          let to : number_of r ≤ after = passes in
           absurd (omega (arith, same, from, to, first));
       rise = tt;
     });
@@ -110,16 +97,16 @@ module _ {R : Type 0} (t : ℕ → Option R) (number_of : R → ℕ) (test : R �
 
   module _ (after batches : ℕ) (kept : List R) (so_far : AreSoFar after batches kept) (batch : List R) (is : AreRowsAfter t number_of after batch) where
     -- A batch that is empty is the last.
-    pub all_so_far : AreNumbered t number_of → length batch ≡ 0 → AreTestedRows t number_of test kept
+    pub all_so_far : AreNumbered t number_of → length batch ≡ 0 → AreRows t number_of AllPass kept
     all_so_far numbered none = record {
-      sound = λ r there. let it = (so_far.rows_are numbered).sound r there in (it.0, it.1.0);
-      whole = λ n r e passes. go n r e passes (cases_lt after (number_of r));
+      sound = λ r there. (((so_far.rows_are numbered).sound r there).0, tt);
+      whole = λ n r e passes. go n r e (cases_lt after (number_of r));
       rise = (so_far.rows_are numbered).rise;
     }
       where
-        go : (n : ℕ) (r : R) → t n ≡ Some r → test r ≡ true → (after < number_of r) ⊎ (number_of r ≤ after) → Contains kept r
-        go n r e passes (inr low) = (so_far.rows_are numbered).whole n r e (passes, low)
-        go n r e passes (inl high) = elim (is.whole n r e high) [
+        go : (n : ℕ) (r : R) → t n ≡ Some r → (after < number_of r) ⊎ (number_of r ≤ after) → Contains kept r
+        go n r e (inr low) = (so_far.rows_are numbered).whole n r e low
+        go n r e (inl high) = elim (is.whole n r e high) [
           | inl there ↦ (let lt : there.0 < length batch = there.1 in absurd (omega (arith, lt, none)))
           | inr rest ↦ (let full : length batch ≡ BATCH_ROWS = rest.0 in absurd (omega (arith, full, none)))
         ]
@@ -132,7 +119,7 @@ module _ {R : Type 0} (t : ℕ → Option R) (number_of : R → ℕ) (test : R �
       above_after r there = (is.sound r (contains_had batch r there)).1
 
       -- One batch more.
-      more_so_far : AreSoFar (number_of last) (batches + 1) (kept ++ filter test batch)
+      more_so_far : AreSoFar (number_of last) (batches + 1) (kept ++ batch)
       more_so_far = record {
         rows_are = λ numbered. record { sound = sound numbered; whole = whole numbered; rise = rise numbered };
         few = let less : after < number_of last = above_after last greatest.0 in let few : batches ≤ after = so_far.few in omega (arith, less, few);
@@ -141,66 +128,37 @@ module _ {R : Type 0} (t : ℕ → Option R) (number_of : R → ℕ) (test : R �
           less : after < number_of last
           less = above_after last greatest.0
 
-          sound : AreNumbered t number_of → (r : R) → Contains (kept ++ filter test batch) r → (t (number_of r) ≡ Some r)
-              × ((test r ≡ true) × (number_of r ≤ number_of last))
-          sound numbered r there = elim (Contains-append_cases kept (filter test batch) r there) [
+          sound : AreNumbered t number_of → (r : R) → Contains (kept ++ batch) r → (t (number_of r) ≡ Some r) × (number_of r ≤ number_of last)
+          sound numbered r there = elim (Contains-append_cases kept batch r there) [
             | inl before ↦
                 let it = (so_far.rows_are numbered).sound r before in
-                let low : number_of r ≤ after = it.1.1 in
-                (it.0, (it.1.0, omega (arith, low, less)))
-            | inr new ↦
-                let it = has_filtered test batch r (has_contained (filter test batch) r new) in
-                ((is.sound r (contains_had batch r it.0)).0, (it.1, greatest.1 r it.0))
+                let low : number_of r ≤ after = it.1 in
+                (it.0, omega (arith, low, less))
+            | inr new ↦ ((is.sound r new).0, greatest.1 r (has_contained batch r new))
           ]
 
-          whole : AreNumbered t number_of → (n : ℕ) (r : R) → t n ≡ Some r → (test r ≡ true) × (number_of r ≤ number_of last)
-              → Contains (kept ++ filter test batch) r
-          whole numbered n r e passes = go (cases_lt after (number_of r))
+          whole : AreNumbered t number_of → (n : ℕ) (r : R) → t n ≡ Some r → number_of r ≤ number_of last → Contains (kept ++ batch) r
+          whole numbered n r e to = go (cases_lt after (number_of r))
             where
-              go : (after < number_of r) ⊎ (number_of r ≤ after) → Contains (kept ++ filter test batch) r
-              go (inr low) = Contains-append_left kept (filter test batch) r ((so_far.rows_are numbered).whole n r e (passes.0, low))
+              go : (after < number_of r) ⊎ (number_of r ≤ after) → Contains (kept ++ batch) r
+              go (inr low) = Contains-append_left kept batch r ((so_far.rows_are numbered).whole n r e low)
               go (inl high) = elim (is.whole n r e high) [
-                | inl there ↦ Contains-append_right kept (filter test batch) r
-                    (contains_had (filter test batch) r (has_kept test batch r (has_contained batch r there) passes.0))
+                | inl there ↦ Contains-append_right kept batch r there
                 | inr rest ↦
                     let under : number_of last < n = rest.1 last (contains_had batch last greatest.0) in
                     let own : number_of r ≡ n = (numbered n r e).0 in
-                    let to : number_of r ≤ number_of last = passes.1 in
                     absurd (omega (arith, under, own, to))
               ]
 
-          rise : AreNumbered t number_of → Rise number_of (kept ++ filter test batch)
-          rise numbered = rises_joined number_of kept (filter test batch) (so_far.rows_are numbered).rise
-              (rises_filtered number_of test batch is.rise) (λ r s before new.
-              let low : number_of r ≤ after = ((so_far.rows_are numbered).sound r (contains_had kept r before)).1.1 in
-              let high : after < number_of s = above_after s (has_filtered test batch s new).0 in
+          rise : AreNumbered t number_of → Rise number_of (kept ++ batch)
+          rise numbered = rises_joined number_of kept batch (so_far.rows_are numbered).rise is.rise (λ r s before new.
+              let low : number_of r ≤ after = ((so_far.rows_are numbered).sound r (contains_had kept r before)).1 in
+              let high : after < number_of s = above_after s new in
               omega (arith, low, high))
 
     -- The same, where the number and the rows are named.
-    pub next_so_far : (last : ℕ) → option_map number_of (slice_get batch (length batch - 1)) ≡ Some last → (more : List R) → more ≡ kept
-        ++ filter test batch → AreSoFar last (batches + 1) more
+    pub next_so_far : (last : ℕ) → option_map number_of (slice_get batch (length batch - 1)) ≡ Some last → (more : List R) → more ≡ kept ++ batch
+        → AreSoFar last (batches + 1) more
     next_so_far last end more is =
         let it = last_there number_of batch last end in
         subst (λ (n : ℕ). AreSoFar n (batches + 1) more) it.2 (subst (λ (l : List R). AreSoFar (number_of it.0) (batches + 1) l) (sym is) (more_so_far it.0 it.1))
-
--- Rows that a test lets through are all, where it lets each through.
-pub all_pass : {R : Type 0} (t : ℕ → Option R) (number_of : R → ℕ) (rows : List R) → AreTestedRows t number_of (λ _. true) rows
-    → AreRows t number_of AllPass rows
-all_pass t number_of rows are = record {
-  sound = λ r there. ((are.sound r there).0, tt);
-  whole = λ n r e passes. are.whole n r e refl;
-  rise = are.rise;
-}
-
--- Loans that have not ended, as the row says it.
-pub open_pass : (t : ℕ → Option LoanRow) (rows : List LoanRow) → AreTestedRows t (λ r. r.loan) (λ r. is_none r.ended) rows
-    → AreRows t (λ r. r.loan) (λ r. r.ended ≡ None) rows
-open_pass t rows are = record {
-  sound = λ r there. let it = are.sound r there in (it.0, ended r.ended it.1);
-  whole = λ n r e passes. are.whole n r e (ap is_none passes);
-  rise = are.rise;
-}
-  where
-    ended : (o : Option ℕ) → is_none o ≡ true → o ≡ None
-    ended None is = refl
-    ended (Some d) is = let never : ⊥ = cc in absurd never

@@ -18,7 +18,7 @@ use Rattle.sql_maps.proofs.CallLemmas.{on_ok}
 use Rattle.terms.specs.Limits.{InLimits, IsMeta, IsRule1}
 use Rattle.terms.specs.Orders.{IsPairBefore}
 use Rattle.terms.specs.Pictures.{Picture}
-use Rattle.terms.specs.Schemas.{IsOfSchema1, IsOfSchema2}
+use Rattle.terms.specs.Schemas.{IsOfSchema1, IsOfSchema2, IsOfSchema3, led_to_4}
 use Rattle.terms.specs.declared.row.MetaRow.{MetaRow}
 use Rattle.terms.specs.declared.row.RuleRow1.{RuleRow1}
 use Rattle.terms.specs.declared.fault.Fault.{Fault}
@@ -36,8 +36,7 @@ use Rattle.circ_tables.specs.RulesOfSchema1.{rules1}
 use Rattle.circ_tables.specs.SchemaNumber.{NamesSchema}
 use Rattle.circ_tables.specs.Selections.{is_any}
 use Rattle.circ_tables.specs.Shape.{HasTable, schema_at, meta, meta_place, rules1_place, loans1_place, holds1_place, holds_place}
-use Rattle.circ_tables.specs.TableSchemas.{has_third}
-use Rattle.circ_tables.specs.Shape.{rules_place, loans_place}
+use Rattle.circ_tables.specs.Shape.{rules_place, loans_place, barcodes_place, notes_place}
 use Rattle.circ_tables.proofs.TableLemmas.{rules1_within}
 use Rattle.store.specs.Legal.{HasLegal}
 use Rattle.store.specs.Library.{HasTablesAt}
@@ -57,7 +56,7 @@ use Rattle.store.proofs.ChangeSteps.{then, keeps_then}
 module _ {S T U : Type 0} (g : Ghosts S) {old mid new : Transaction S} {x : T} {r : Result U Fault} {from at to : ℕ}
     {Led1 Led2 : Maps → Maps → Type 0} {Ready1 Ready2 : Picture → Type 0} {c1 c2 : Picture → Picture} where
   pub migrates_then : (Led : Maps → Maps → Type 0) (Ready : Picture → Type 0) (change : Picture → Picture) → ((a b c : Maps) → Led1 a b → Led2 b c → Led a c)
-      → ((P : Picture) → Ready P → Ready1 P × Ready2 (c1 P)) → ((P : Picture) → c2 (c1 P) ≡ change P)
+      → ((P : Picture) → Ready P → Ready1 P × Ready2 (c1 P)) → ((P : Picture) → Ready P → c2 (c1 P) ≡ change P)
       → MigratesInside from at Led1 Ready1 c1 g old mid (Ok x) → MigratesInside at to Led2 Ready2 c2 g mid new r → MigratesInside from to Led Ready change g old new r
   migrates_then Led Ready change glue parts same one two = record {
     same_reference = two.same_reference ∙ one.same_reference;
@@ -70,7 +69,7 @@ module _ {S T U : Type 0} (g : Ghosts S) {old mid new : Transaction S} {x : T} {
         on_ok r (λ e. (e.0, e.1, glue maps it.0 e.0 it.2 e.2)) (two.rows clean (one.inside (early clean) begun (maps, holds)) it.0 it.1);
     migrates = λ clean begun P shown ready.
         let are = parts P ready in
-        on_ok r (subst (HasPictureAt to (state g new.conn.now).now) (same P))
+        on_ok r (subst (HasPictureAt to (state g new.conn.now).now) (same P ready))
         (two.migrates clean (one.inside (early clean) begun (shown.maps, shown.holds)) (c1 P)
         (one.migrates (early clean) begun P shown are.0) are.1);
     sound = λ clean begun told P shown ready.
@@ -137,18 +136,27 @@ not_stored : {T : Type 0} (r : Result T Fault) → IfErr r (λ fault. fault ≡ 
 not_stored (Ok x) fault told = cc
 not_stored (Err e) fault told = let same : e ≡ Stored = cc in let never : DatabaseFault ≡ Stored = sym fault ∙ same in cc
 
+-- Tables were made from a place on: they are empty, and those before are as they were.
+pub record AreMadeBeside (place : ℕ) (maps now : Maps) : Type 0 where
+  pub same : (at : ℕ) → at < place → now at ≡ maps at
+  pub empty : IsFreeFrom place now
+
 -- The tables of another schema were made beside those of one.
 pub made_migrates : {S T : Type 0} (g : Ghosts S) {old new : Transaction S} (r : Result T Fault) (from to place : ℕ)
     → length (schema_at from).tables ≡ place → (IsReady : Picture → Type 0)
     → ((maps : Maps) (P : Picture) → Encodes maps P → IsReady P → Encodes (cut place maps) P) → Makes (schema_at from) (schema_at to) g old new r
-    → MigratesInside from to (λ maps now. (at : ℕ) → at < place → now at ≡ maps at) IsReady (λ P. P) g old new r
+    → MigratesInside from to (AreMadeBeside place) IsReady (λ P. P) g old new r
 made_migrates g {old} {new} r from to place long IsReady encodes made = record {
   same_reference = made.works.same_reference;
   survives = made.works.survives;
   kept = λ clean begun there. made.works.kept clean;
   inside = λ clean begun there. on_ok r (λ moves. moves.is_inside) (made.moves clean begun);
   rows = λ clean begun maps holds. on_ok r
-      (λ moves. (cut place maps, moves.maps (cut place maps) (free maps) (held maps holds), cut_is place maps)) (made.moves clean begun);
+      (λ moves. (
+        cut place maps,
+        moves.maps (cut place maps) (free maps) (held maps holds),
+        record { same = cut_is place maps; empty = cut_free place maps },
+      )) (made.moves clean begun);
   migrates = λ clean begun P shown ready. on_ok r
       (λ moves. record {
         maps = cut place shown.maps;
@@ -170,7 +178,8 @@ made_migrates g {old} {new} r from to place long IsReady encodes made = record {
 none_encoded : {K R : Type 0} {key : K → Row} {cells : R → Row} {t : K → Option R} → ((k : K) → t k ≡ None) → IsEncoded Any key cells (λ j. None) t
 none_encoded {cells = cells} none = record { there = λ k any. sym (ap (option_map cells) (none k)); only = λ j v e. absurd (let never : ⊥ = cc in never) }
 
--- The tables of schema 1 show a picture with no hold of schema 2, and no rule and no loan of schema 3.
+-- The tables of schema 1 show a picture with no hold of schema 2, no rule and no loan of schema 3, and no
+-- barcode and no note of schema 4.
 pub encoded_1 : (maps : Maps) (P : Picture) → Encodes maps P → IsOfSchema1 P × InLimits P → Encodes (cut 13 maps) P
 encoded_1 maps P is ready = record {
   meta = is.meta;
@@ -189,9 +198,11 @@ encoded_1 maps P is ready = record {
   holds = none_encoded ready.0.later;
   rules = none_encoded (λ k. ready.0.later_rules k.0 k.1);
   loans = none_encoded ready.0.later_loans;
+  barcodes = none_encoded ready.0.later_labels.barcodes;
+  notes = none_encoded ready.0.later_labels.notes;
 }
 
--- Those of schema 2 one with no rule and no loan of schema 3.
+-- Those of schema 2 one with no rule and no loan of schema 3, and no barcode and no note of schema 4.
 pub encoded_2 : (maps : Maps) (P : Picture) → Encodes maps P → IsOfSchema2 P × InLimits P → Encodes (cut 14 maps) P
 encoded_2 maps P is ready = record {
   meta = is.meta;
@@ -210,6 +221,31 @@ encoded_2 maps P is ready = record {
   holds = is.holds;
   rules = none_encoded (λ k. ready.0.later_rules k.0 k.1);
   loans = none_encoded ready.0.later_loans;
+  barcodes = none_encoded ready.0.later_labels.barcodes;
+  notes = none_encoded ready.0.later_labels.notes;
+}
+
+-- Those of schema 3 one with no barcode and no note of schema 4.
+pub encoded_3 : (maps : Maps) (P : Picture) → Encodes maps P → IsOfSchema3 P × InLimits P → Encodes (cut 16 maps) P
+encoded_3 maps P is ready = record {
+  meta = is.meta;
+  branches = is.branches;
+  closed_days = is.closed_days;
+  kinds = is.kinds;
+  rules1 = is.rules1;
+  patrons = is.patrons;
+  titles = is.titles;
+  copies = is.copies;
+  loans1 = is.loans1;
+  holds1 = is.holds1;
+  transits = is.transits;
+  lines = is.lines;
+  kept = is.kept;
+  holds = is.holds;
+  rules = is.rules;
+  loans = is.loans;
+  barcodes = none_encoded ready.0.later_labels.barcodes;
+  notes = none_encoded ready.0.later_labels.notes;
 }
 
 -- ---- the schema is named
@@ -356,10 +392,10 @@ pub record HoldsMoved (maps now : Maps) : Type 0 where
   pub carried : AreCarried holds1 holds holds_transfer maps now
   pub others : (at : ℕ) → at < holds_place → (at == holds1_place) ≡ false → now at ≡ maps at
 
-pub made_moved : (a b c : Maps) → ((at : ℕ) → at < 13 → b at ≡ a at) → AreMoved holds1 holds holds_transfer b c → HoldsMoved a c
-made_moved a b c same moved = record {
-  carried = carried_from holds1 holds holds_transfer a b c (same holds1_place (omega arith)) moved.carried;
-  others = λ at less aside. moved.others at aside (ne_eqb at holds_place (λ there. omega (arith, less, there))) ∙ same at less;
+pub made_moved : (a b c : Maps) → AreMadeBeside 13 a b → AreMoved holds1 holds holds_transfer b c → HoldsMoved a c
+made_moved a b c beside moved = record {
+  carried = carried_from holds1 holds holds_transfer a b c (beside.same holds1_place (omega arith)) moved.carried;
+  others = λ at less aside. moved.others at aside (ne_eqb at holds_place (λ there. omega (arith, less, there))) ∙ beside.same at less;
 }
 
 pub led_to_second : (a b c : Maps) → HoldsMoved a b → AreNamed 2 b c → AreLedIfNamed 1 a c
@@ -383,10 +419,10 @@ pub record LoansMoved (maps now : Maps) : Type 0 where
   pub loans_over : AreCarried loans1 loans loans_transfer maps now
   pub others : (at : ℕ) → at < rules_place → (at == rules1_place) ≡ false → (at == loans1_place) ≡ false → now at ≡ maps at
 
-pub made_rules : (a b c : Maps) → ((at : ℕ) → at < 14 → b at ≡ a at) → AreMoved rules1 rules rules_transfer b c → RulesMoved a c
-made_rules a b c same moved = record {
-  carried = carried_from rules1 rules rules_transfer a b c (same rules1_place (omega arith)) moved.carried;
-  others = λ at less aside. moved.others at aside (ne_eqb at rules_place (λ there. omega (arith, less, there))) ∙ same at less;
+pub made_rules : (a b c : Maps) → AreMadeBeside 14 a b → AreMoved rules1 rules rules_transfer b c → RulesMoved a c
+made_rules a b c beside moved = record {
+  carried = carried_from rules1 rules rules_transfer a b c (beside.same rules1_place (omega arith)) moved.carried;
+  others = λ at less aside. moved.others at aside (ne_eqb at rules_place (λ there. omega (arith, less, there))) ∙ beside.same at less;
 }
 
 pub made_loans : (a b c : Maps) → RulesMoved a b → AreMoved loans1 loans loans_transfer b c → LoansMoved a c
@@ -412,6 +448,31 @@ led_to_third a b c moved named m names =
       );
       named = it.1;
       others = λ at left. named.others at left.1 ∙ moved.others at left.0 left.2 left.3;
+    }
+
+-- Indexes were added, and then tables were made.
+pub made_labels : (a b c : Maps) → AreMadeBeside 16 a b → AreMadeBeside 16 b c → AreMadeBeside 16 a c
+made_labels a b c first second = record { same = λ at less. second.same at less ∙ first.same at less; empty = second.empty }
+
+-- A library of schema 3 has no barcode and no note to lose.
+pub led_to_4_is : (P : Picture) → IsOfSchema3 P × InLimits P → record P { meta = record P.meta { schema = 4 } } ≡ led_to_4 P
+led_to_4_is P ready =
+    let no_barcodes = fun_ext ready.0.later_labels.barcodes in
+    let no_notes = fun_ext ready.0.later_labels.notes in
+    λ i. record P { meta = record P.meta { schema = 4 }; barcodes = no_barcodes i; notes = no_notes i }
+
+pub led_to_fourth : (a b c : Maps) → AreMadeBeside 16 a b → AreNamed 4 b c → AreLedIfNamed 3 a c
+led_to_fourth a b c made named m names =
+    let meta = made.same meta_place (omega arith) in
+    let it = named.meta m (names_still a b m meta names) in
+    record {
+      legal = subst (λ (m : Map). AreEncoded meta_cells IsMeta m) meta it.0;
+      arrived = (
+        λ k. ap (λ (m : Map). m k) (named.others barcodes_place refl) ∙ made.empty barcodes_place (omega arith) k,
+        λ k. ap (λ (m : Map). m k) (named.others notes_place refl) ∙ made.empty notes_place (omega arith) k,
+      );
+      named = it.1;
+      others = λ at left. named.others at left.1 ∙ made.same at left.0;
     }
 
 -- ---- rules, which are listed as a whole
@@ -471,25 +532,28 @@ rules_moved g {old} {mid} {new} {items} {l} r read moves = record {
   same_reference = moves.works.same_reference ∙ read.works.same_reference;
   survives = then _ _ _ read.works.survives moves.works.survives;
   kept = λ clean begun there. keeps_then _ _ _ (read.works.kept (early clean) begun) (moves.works.kept clean);
-  inside = λ clean begun there. on_ok r (λ steps. (steps 3 has_third).is_inside) (moves.steps clean (between clean begun there).0);
+  inside = λ clean begun there. on_ok r (λ steps. (steps 3 stands).is_inside) (moves.steps clean (between clean begun there).0);
   rows = λ clean begun maps holds.
       let seen = read.lists 3 has (early clean) maps holds in
       on_ok r (λ steps. (
         move_rows rules1 rules rules_transfer (items l) maps,
-        (steps 3 has_third).maps maps (subst (λ d. Holds (schema_at 3) d maps) (sym seen.1.0.now_is) holds),
+        (steps 3 stands).maps maps (subst (λ d. Holds (schema_at 3) d maps) (sym seen.1.0.now_is) holds),
         listed_moved rules_carried (items l) maps read.limits seen.0 (rule1_keyed (state g old.conn.now).now maps holds),
       )) (moves.steps clean (between clean begun (maps, holds)).0);
   migrates = λ clean begun P shown ready.
       let seen = read.lists 3 has (early clean) shown.maps shown.holds in
       on_ok r (λ draws. subst (HasPictureAt 3 (state g new.conn.now).now)
       (list_over rules_carried P (own_rules P ready.0) ready.1 (items l) (rules_listed shown.maps P shown.encodes ready.0 (items l) read.limits seen.0))
-      ((draws 3 has_third).picture P (subst (λ d. HasPictureAt 3 d P) (sym seen.1.0.now_is) shown)))
+      ((draws 3 stands).picture P (subst (λ d. HasPictureAt 3 d P) (sym seen.1.0.now_is) shown)))
       (moves.draws clean (between clean begun (shown.maps, shown.holds)).0 tt);
   sound = λ clean begun told P shown ready. not_stored r moves.fault told;
 }
   where
     has : HasTable 1 3
     has = (omega arith, omega arith)
+
+    stands : HasTable 3 3
+    stands = (omega arith, omega arith)
 
     early : HasCleanDisk (state g new.conn.now) → HasCleanDisk (state g mid.conn.now)
     early clean = omega (arith, moves.works.survives.clean)

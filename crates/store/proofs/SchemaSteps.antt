@@ -1,6 +1,6 @@
 -- The steps from schema to schema, single and all due ones.
 use Rattle.std.proofs.Common.{◌≡◌, ◌<◌, ◌≤◌, ◌+◌, ◌⊎◌, ◌^◌, ◌∙◌, inl, inr, ℕ, zero, suc, List, refl, sym, ap, subst, arith, IsTrue}
-use Rattle.std.specs.Prelude.{Result, Ok, Err, IfOk, ◌-◌}
+use Rattle.std.specs.Prelude.{Result, Ok, Err, IfOk, OnOk, OnErr, ◌-◌}
 use Rattle.std.specs.Result.{IsErr, IsErrAnd}
 use Rattle.std.proofs.lemmas.Bool.{cases_lt}
 use Rattle.sqlite.specs.Effect.{Database}
@@ -11,9 +11,10 @@ use Rattle.sqlite.specs.Table.{Table}
 use Rattle.sqlite.specs.declared.transaction.Transaction.{Transaction}
 use Rattle.sqlite_schema.specs.declared.schema.Index.{Index}
 use Rattle.sql_maps.specs.Maps.{Maps, Holds}
+use Rattle.sql_maps.proofs.CallLemmas.{on_ok}
 use Rattle.terms.specs.Limits.{InLimits}
 use Rattle.terms.specs.Pictures.{Picture}
-use Rattle.terms.specs.Schemas.{IsOfSchema, led_on, led_by, led_to_2}
+use Rattle.terms.specs.Schemas.{IsOfSchema, led_on, led_by, led_to_2, led_to_3}
 use Rattle.terms.specs.declared.fault.Fault.{Fault}
 use Rattle.terms.specs.declared.fault.Fault.TheVariants.{Stored}
 use Rattle.terms.specs.declared.limits.TheConstants.{SCHEMA}
@@ -23,16 +24,21 @@ use Rattle.circ_tables.specs.SchemaNumber.{NamesSchema, TellsSchemaInside}
 use Rattle.circ_tables.specs.Shape.{schema_at}
 use Rattle.circ_tables.specs.TableSchemas.{since_first}
 use Rattle.circ_tables.proofs.InverseLemmas.{schema_told}
-use Rattle.store.specs.Library.{HasTablesAt}
+use Rattle.store.specs.Library.{HasTablesAt, IsAsItWas}
 use Rattle.store.specs.Migrating.{IsLibrary, IsAtSomeSchema, AreThere, AreLedOn, AreLedUp, MigratesFrom, MigratesOn, MigratesOnInside, MakesOneStep}
-use Rattle.store.specs.Migrating.{StepsOn, IsNotLedUp, CannotBeLed, Migrates}
-use Rattle.store.specs.Transfers.{holds_carried}
+use Rattle.store.specs.Migrating.{StepsOn, IsNotLedUp, IsLedInPart, CannotBeLed, Migrates}
+use Rattle.store.specs.Carrying.{all_over}
+use Rattle.store.specs.Transfers.{holds_transfer, rules_transfer, loans_transfer, holds_carried, rules_carried, loans_carried}
+use Rattle.circ_tables.specs.HoldsOfSchema1.{holds1}
+use Rattle.circ_tables.specs.LoansOfSchema1.{loans1}
+use Rattle.circ_tables.specs.RulesOfSchema1.{rules1}
 use Rattle.store.specs.Schemas.{IsKnown, IsOlder, next_schema}
-use Rattle.store.specs.Stops.{Leaves, KeepsPictureAt}
+use Rattle.store.specs.Stops.{Leaves, KeepsPicture, KeepsPictureAt}
 use Rattle.store.proofs.MigrateLemmas.{all_over_limits}
+use Rattle.store.proofs.PartsOfSteps.{own_rules}
 use Rattle.store.proofs.OpenLemmas.{of_known, picture_names, names_once}
 use Rattle.store.proofs.ChangeSteps.{then, keeps_then}
-use Rattle.store.proofs.StopLemmas.{Settles, open_keeps, leaves_committed}
+use Rattle.store.proofs.StopLemmas.{Settles, open_keeps, leaves_committed, on_err}
 
 of_older : (n : ℕ) → IsOlder n → IsKnown n
 of_older n older = let high = older.1 in (older.0, omega (arith, high))
@@ -45,7 +51,8 @@ pub of_schema : (n : ℕ) (P : Picture) → IsOfSchema n P → P.meta.schema ≡
 of_schema zero P is = is
 of_schema (suc zero) P is = is.names
 of_schema (suc (suc zero)) P is = is.names
-of_schema (suc (suc (suc n))) P is = is
+of_schema (suc (suc (suc zero))) P is = is.names
+of_schema (suc (suc (suc (suc n)))) P is = is
 
 -- A library has the tables of its schema.
 pub library_there : (n : ℕ) → IsKnown n → (db : Database) (P : Picture) → IsLibrary n db P → AreThere n db
@@ -128,7 +135,7 @@ module _ {S : Type 0} (g : Ghosts S) {old mid : Transaction S} where
         migrates = λ m known P library.
             let unchanged = (told clean m known library.0.maps library.0.holds).1 in
             subst (λ k. IsLibrary k (state g old.conn.now).now P → (to ≡ next_schema k) × HasPictureAt (next_schema k) (state g mid.conn.now).now (led_on k P))
-            (sym (library_is clean m known P library ∙ is)) (λ here. (same, subst (λ d. HasPictureAt 3 d P) (sym unchanged.0.now_is) here.0)) library;
+            (sym (library_is clean m known P library ∙ is)) (λ here. (same, subst (λ d. HasPictureAt 4 d P) (sym unchanged.0.now_is) here.0)) library;
         rows = λ m older maps holds names.
             let one = names_once maps m n names (told clean m (of_older m older) maps holds).0 in
             let less : m < SCHEMA = older.1 in
@@ -213,83 +220,152 @@ module _ {S : Type 0} (g : Ghosts S) {old mid : Transaction S} where
 
 -- ---- all steps that are due
 
--- A library of schema 1 that was led on is one of schema 2.
-pub second_library : (old new : Database) (P : Picture) → IsLibrary 1 old P → HasPictureAt 2 new (led_to_2 P) → IsLibrary 2 new (led_to_2 P)
+-- Rows within their limits stay so, whichever schema of 32 bits is named.
+within_limits : (P : Picture) → InLimits P → (n : ℕ) → n < 2 ^ 32 → InLimits (record P { meta = record P.meta { schema = n } })
+within_limits P legal n low = record {
+  meta = (omega (arith, low), legal.meta.1, legal.meta.2, legal.meta.3, legal.meta.4);
+  branches = legal.branches;
+  closed_days = legal.closed_days;
+  kinds = legal.kinds;
+  rules = legal.rules;
+  rules1 = legal.rules1;
+  patrons = legal.patrons;
+  titles = legal.titles;
+  copies = legal.copies;
+  loans = legal.loans;
+  loans1 = legal.loans1;
+  holds = legal.holds;
+  holds1 = legal.holds1;
+  transits = legal.transits;
+  lines = legal.lines;
+  kept = legal.kept;
+  barcodes = legal.barcodes;
+  notes = legal.notes;
+}
+
+-- A library of an older schema that was led on is one of the next.
+second_library : (old new : Database) (P : Picture) → IsLibrary 1 old P → HasPictureAt 2 new (led_to_2 P) → IsLibrary 2 new (led_to_2 P)
 second_library old new P is shown =
     let over = all_over_limits holds_carried P is.2 (λ k r e. is.2.holds1 k r e) in (
       shown,
-      record { names = refl; later_rules = is.1.later_rules; later_loans = is.1.later_loans },
       record {
-        meta = (omega arith, is.2.meta.1, is.2.meta.2, is.2.meta.3, is.2.meta.4);
-        branches = over.branches;
-        closed_days = over.closed_days;
-        kinds = over.kinds;
-        rules = over.rules;
-        rules1 = over.rules1;
-        patrons = over.patrons;
-        titles = over.titles;
-        copies = over.copies;
-        loans = over.loans;
-        loans1 = over.loans1;
-        holds = over.holds;
-        holds1 = over.holds1;
-        transits = over.transits;
-        lines = over.lines;
-        kept = over.kept;
+        names = refl;
+        later_rules = is.1.later_rules;
+        later_loans = is.1.later_loans;
+        later_labels = record { barcodes = is.1.later_labels.barcodes; notes = is.1.later_labels.notes };
       },
+      within_limits (all_over holds1 holds_transfer P) over 2 (omega arith),
     )
 
--- What a step that led to an older schema was made from.
-from_first : (to : ℕ) (old new : Database) → MigratesOn to old new → to < SCHEMA → (n : ℕ) → IsKnown n → (P : Picture) → IsLibrary n old P
-    → (n ≡ 1) × IsLibrary 2 new (led_on n P)
-from_first to old new led less = since_first (λ n. (P : Picture) → IsLibrary n old P → (n ≡ 1) × IsLibrary 2 new (led_on n P))
-    (λ P is. (refl, second_library old new P is (led.migrates 1 (omega arith, omega arith) P is).1))
-    (λ P is. let next = (led.migrates 2 (omega arith, omega arith) P is).0 in absurd (omega (arith, next, less)))
-    (λ P is. let next = (led.migrates 3 (omega arith, omega arith) P is).0 in absurd (omega (arith, next, less)))
+third_library : (old new : Database) (P : Picture) → IsLibrary 2 old P → HasPictureAt 3 new (led_to_3 P) → IsLibrary 3 new (led_to_3 P)
+third_library old new P is shown =
+    let rules_over = all_over_limits rules_carried P is.2 (own_rules P is.2) in
+    let over = all_over_limits loans_carried (all_over rules1 rules_transfer P) rules_over (λ k r e. is.2.loans1 k r e) in (
+      shown,
+      record { names = refl; later_labels = record { barcodes = is.1.later_labels.barcodes; notes = is.1.later_labels.notes } },
+      within_limits (all_over loans1 loans_transfer (all_over rules1 rules_transfer P)) over 3 (omega arith),
+    )
+
+-- What holds of each older schema, one by one, holds of all.
+of_older_each : (Is : ℕ → Type 0) → Is 1 → Is 2 → Is 3 → (n : ℕ) → IsOlder n → Is n
+of_older_each Is first second third n older =
+    since_first (λ m. m < SCHEMA → Is m) (λ _. first) (λ _. second) (λ _. third) (λ less. absurd (omega (arith, less))) n (of_older n older) older.1
 
 -- Where a known schema is named, it is an older one or the newest.
 named_is : (m : ℕ) → IsKnown m → IsOlder m ⊎ (m ≡ SCHEMA)
 named_is m known = elim (cases_lt m SCHEMA) [ inl less ↦ inl (known.0, less) | inr most ↦ inr (let high = known.1 in omega (arith, high, most)) ]
 
--- The tables of the next schema are there then, and name it.
-between_there : (to : ℕ) (old new : Database) → MigratesOn to old new → to < SCHEMA → (n : ℕ) → AreThere n old → (n ≡ 1) × AreThere 2 new
-between_there to old new led less n there = go (named_is named.0 named.2)
+-- The next schema is one more.
+next_is : (n : ℕ) → IsOlder n → next_schema n ≡ suc n
+next_is = of_older_each (λ n. next_schema n ≡ suc n) refl refl refl
+
+-- The schema that a step leads to from tables that name an older one.
+record LedOn (n : ℕ) (new : Database) (P : Picture) : Type 0 where
+  pub known : IsKnown (suc n)
+  pub older : IsOlder (suc n)
+  pub library : IsLibrary (suc n) new (led_on n P)
+
+-- A step that led to an older schema was made from the one before it.
+led_library : (to : ℕ) (old new : Database) → MigratesOn to old new → to < SCHEMA → (n : ℕ) → IsKnown n → (P : Picture) → IsLibrary n old P → LedOn n new P
+led_library to old new led less = since_first (λ n. (P : Picture) → IsLibrary n old P → LedOn n new P)
+    (λ P is. record {
+      known = (omega arith, omega arith);
+      older = (omega arith, omega arith);
+      library = second_library old new P is (led.migrates 1 (omega arith, omega arith) P is).1;
+    })
+    (λ P is. record {
+      known = (omega arith, omega arith);
+      older = (omega arith, omega arith);
+      library = third_library old new P is (led.migrates 2 (omega arith, omega arith) P is).1;
+    })
+    (λ P is. let next = (led.migrates 3 (omega arith, omega arith) P is).0 in absurd (omega (arith, next, less)))
+    (λ P is. let next = (led.migrates 4 newest_known P is).0 in absurd (omega (arith, next, less)))
+
+-- Its tables are there then, name the next schema, and were led on from those before.
+record LedMaps (n : ℕ) (maps : Maps) (new : Database) : Type 0 where
+  pub older : IsOlder (suc n)
+  pub between : Maps
+  pub holds : Holds (schema_at (suc n)) new between
+  pub led : AreLedOn n maps between
+  pub names : NamesSchema between (suc n)
+
+led_maps : (to : ℕ) (old new : Database) → MigratesOn to old new → to < SCHEMA → (n : ℕ) → IsOlder n → (maps : Maps) → Holds (schema_at n) old maps
+    → NamesSchema maps n → LedMaps n maps new
+led_maps to old new led less n older maps holds names =
+    let it = led.rows n older maps holds names in
+    let same = next_is n older in
+    record {
+      older = (omega arith, (let next = it.0 in omega (arith, next, same, less)));
+      between = it.1.0;
+      holds = subst (λ k. Holds (schema_at k) new it.1.0) same it.1.1;
+      led = it.1.2;
+      names = subst (NamesSchema it.1.0) same it.1.2.named;
+    }
+
+-- The schema that tables name which a step led to an older one.
+named_older : (to : ℕ) (old new : Database) → MigratesOn to old new → to < SCHEMA → (n : ℕ) → (there : AreThere n old)
+    → IsOlder n × NamesSchema there.maps n
+named_older to old new led less n there = go (named_is named.0 named.2)
   where
     named : (m : ℕ) × NamesSchema there.maps m × IsKnown m
     named = led.named n there.known there.maps there.holds
 
-    at : (k : ℕ) → IsOlder k → Holds (schema_at k) old there.maps → NamesSchema there.maps k → (k ≡ 1) × AreThere 2 new
-    at zero older holds names = let low : 1 ≤ 0 = older.0 in absurd (omega (arith, low))
-    at (suc zero) older holds names =
-        let it = (led.rows 1 older there.maps holds names).1 in
-        (refl, record { known = (omega arith, omega arith); maps = it.0; holds = it.1; named = λ m other was. names_once it.0 m 2 other it.2.named })
-    at (suc (suc k)) older holds names =
-        let next = (led.rows (suc (suc k)) older there.maps holds names).0 in
-        let high : suc (suc k) < 3 = older.1 in
-        absurd (past k high next)
-      where
-        past : (k : ℕ) → suc (suc k) < 3 → to ≡ next_schema (suc (suc k)) → ⊥
-        past zero high next = omega (arith, next, less)
-        past (suc k) high next = omega (arith, high)
-
-    go : IsOlder named.0 ⊎ (named.0 ≡ SCHEMA) → (n ≡ 1) × AreThere 2 new
+    go : IsOlder named.0 ⊎ (named.0 ≡ SCHEMA) → IsOlder n × NamesSchema there.maps n
     go (inl older) =
         let same : named.0 ≡ n = there.named named.0 named.1 older in
-        at n (subst IsOlder same older) there.holds (subst (NamesSchema there.maps) same named.1)
+        (subst IsOlder same older, subst (NamesSchema there.maps) same named.1)
     go (inr newest) =
         let next = (led.same n there.known there.maps there.holds (subst (NamesSchema there.maps) newest named.1)).0 in
         absurd (omega (arith, next, less))
+
+next_there : (to : ℕ) (old new : Database) → MigratesOn to old new → to < SCHEMA → (n : ℕ) → AreThere n old → AreThere (suc n) new
+next_there to old new led less n there =
+    let from = named_older to old new led less n there in
+    let it = led_maps to old new led less n from.0 there.maps there.holds from.1 in
+    record {
+      known = of_older (suc n) it.older;
+      maps = it.between;
+      holds = it.holds;
+      named = λ m other was. names_once it.between m (suc n) other it.names;
+    }
 
 -- What a stop leaves of a library between steps.
 brought_one : (old db : Database) → MakesOneStep old db → (n : ℕ) → IsKnown n → (P : Picture) → IsLibrary n old P → IsAtSomeSchema n P db
 brought_one old db led = since_first (λ n. (P : Picture) → IsLibrary n old P → IsAtSomeSchema n P db)
     (λ P is. (1, (omega arith, (led.1.migrates 1 (omega arith, omega arith) P is).1)))
     (λ P is. (1, (omega arith, (led.1.migrates 2 (omega arith, omega arith) P is).1)))
-    (λ P is. (0, (omega arith, (led.1.migrates 3 (omega arith, omega arith) P is).1)))
+    (λ P is. (1, (omega arith, (led.1.migrates 3 (omega arith, omega arith) P is).1)))
+    (λ P is. (0, (omega arith, (led.1.migrates 4 newest_known P is).1)))
 
 as_it_was : (db : Database) (n : ℕ) → IsKnown n → (P : Picture) → HasPictureAt n db P → IsAtSomeSchema n P db
 as_it_was db = since_first (λ n. (P : Picture) → HasPictureAt n db P → IsAtSomeSchema n P db)
-    (λ P is. (0, (omega arith, is))) (λ P is. (0, (omega arith, is))) (λ P is. (0, (omega arith, is)))
+    (λ P is. (0, (omega arith, is))) (λ P is. (0, (omega arith, is))) (λ P is. (0, (omega arith, is))) (λ P is. (0, (omega arith, is)))
+
+-- One step more before the others.
+one_more : (n : ℕ) → IsKnown n → (P : Picture) (db : Database) → IsAtSomeSchema (suc n) (led_on n P) db → IsAtSomeSchema n P db
+one_more n known P db at =
+    let same : suc n + at.0 ≡ n + suc at.0 = omega arith in
+    (suc at.0, (let few = at.1.0 in omega (arith, few, same), subst (λ k. HasPictureAt k db (led_by at.0 (suc n) (led_on n P))) same at.1.1))
 
 -- A damaged row keeps the tables as they are.
 stays_damaged : (old db : Database) → MakesOneStep old db → CannotBeLed old → db ≡ old
@@ -318,187 +394,221 @@ not_damaged to old db led less cannot =
           (subst (NamesSchema there.maps) (there.named named.0 named.1 older) named.1)).1.2.legal
     ]
 
-module _ {S : Type 0} (g : Ghosts S) (settled : Settles g) {old mid : Held S} where
-  -- The first step led to the newest schema.
-  pub one_step : {T : Type 0} (to : ℕ) (t : T) → SCHEMA ≤ to → StepsOn g old mid (Ok to) → Migrates {S = S} {T = T} g old mid (Ok t)
-  one_step to t most step = record {
-    clean = λ clean. omega (arith, step.survives.clean, clean);
-    led = λ clean n known P is.
-        let done = step.done clean n (library_there n known (state g old).now P is) in
-        open_keeps g settled SCHEMA (state g mid).now mid (led_by (SCHEMA - n) n P) done.is_open refl done.committed (newest_led done.made n known P is);
-    legal = λ clean n there.
-        let made = (step.done clean n there).made in
-        record {
-          rows = newest_rows made;
-          same = λ m known maps holds names. (made.same m known maps holds names).1;
-          named = made.named;
-        };
-    undone = λ clean is_open. tt;
-    nothing = λ clean is_open n there. tt;
-    stop = λ clean n known P keeps of legal trees may. elim (step.survives.crash clean trees may) [
-      | inl before ↦ let it = keeps.left trees before in (it.0, as_it_was it.0 n known P it.1, it.2)
-      | inr brought ↦ (brought.0, brought_one (state g old).now brought.0 brought.1 n known P (keeps.now, of, legal), brought.2)
-    ];
-    stop_damaged = λ clean cannot left trees may. elim (step.survives.crash clean trees may) [
-      | inl before ↦ left trees before
-      | inr brought ↦ (brought.0, stays_damaged (state g old).now brought.0 brought.1 cannot, brought.2)
-    ];
-    sound = λ clean told n known P is. (let never : ⊥ = cc in never);
-  }
-    where
-      newest_led : MigratesOn to (state g old).now (state g mid).now → (n : ℕ) → IsKnown n → (P : Picture) → IsLibrary n (state g old).now P
-          → HasPictureAt SCHEMA (state g mid).now (led_by (SCHEMA - n) n P)
-      newest_led made = since_first (λ n. (P : Picture) → IsLibrary n (state g old).now P → HasPictureAt SCHEMA (state g mid).now (led_by (SCHEMA - n) n P))
-          (λ P is. let next = (made.migrates 1 (omega arith, omega arith) P is).0 in absurd (omega (arith, next, most)))
-          (λ P is. (made.migrates 2 (omega arith, omega arith) P is).1)
-          (λ P is. (made.migrates 3 (omega arith, omega arith) P is).1)
+-- ---- a chain of steps
 
-      newest_rows : MigratesOn to (state g old).now (state g mid).now → (n : ℕ) → IsOlder n → (maps : Maps)
-          → Holds (schema_at n) (state g old).now maps → NamesSchema maps n
-          → (now : Maps) × Holds (schema_at SCHEMA) (state g mid).now now × AreLedUp n maps now
-      newest_rows made n older = since_first (λ n. (maps : Maps) → Holds (schema_at n) (state g old).now maps → NamesSchema maps n
-          → (now : Maps) × Holds (schema_at SCHEMA) (state g mid).now now × AreLedUp n maps now)
-          (λ maps holds names. let next = (made.rows 1 (omega arith, omega arith) maps holds names).0 in absurd (omega (arith, next, most)))
-          (λ maps holds names. (made.rows 2 (omega arith, omega arith) maps holds names).1)
-          (λ maps holds names. (maps, subst (λ d. Holds (schema_at 3) d maps) (sym (made.same 3 newest_known maps holds names).1) holds, tt))
-          n (of_older n older)
+-- The database and its last commit are what was there before.
+abbrev IsUndone : State → State → Type 0
+IsUndone old new = (new.now ≡ old.now) × (new.committed ≡ old.now)
 
-  -- It failed.
-  pub first_failed : {T : Type 0} {fault : Fault} (r : Result T Fault) → IsErr r × IsErrAnd r (λ e. e ≡ fault)
-      → StepsOn g old mid (Err fault) → Migrates g old mid r
-  first_failed (Ok x) is step = absurd (let none = is.0 in cc)
-  first_failed {T} {fault} (Err e) is step = record {
-    clean = λ clean. omega (arith, step.survives.clean, clean);
-    led = λ clean. tt;
-    legal = λ clean n there. tt;
-    undone = λ clean is_open n known P is. at_first n known P is (
-        let same = step.undone clean is_open n (library_there n known (state g old).now P is) in
-        open_keeps g settled n (state g old).now mid P is_open same.0 same.1 is.0);
-    nothing = λ clean is_open n there.
-        let same = step.undone clean is_open n there in
-        inl (record {
-          now = same.0;
-          left = λ trees may. let it = leaves_committed g settled mid (λ db. db ≡ (state g old).now) is_open same.1 trees may in
-              inr (it.2 ∙ ap (λ (db : Database). db.trees) it.1);
-        });
-    stop = λ clean n known P keeps of legal trees may. elim (step.survives.crash clean trees may) [
-      | inl before ↦ let it = keeps.left trees before in (it.0, as_it_was it.0 n known P it.1, it.2)
-      | inr brought ↦ (brought.0, brought_one (state g old).now brought.0 brought.1 n known P (keeps.now, of, legal), brought.2)
-    ];
-    stop_damaged = λ clean cannot left trees may. elim (step.survives.crash clean trees may) [
-      | inl before ↦ left trees before
-      | inr brought ↦ (brought.0, stays_damaged (state g old).now brought.0 brought.1 cannot, brought.2)
-    ];
-    sound = λ clean told n known P library.
-        let named : e ≡ Stored = cc in
-        let same : fault ≡ Stored = sym is.1 ∙ named in
-        let failed : Fault → Result ℕ Fault = λ f. Err f in
-        step.sound clean (ap failed same) n known P library;
-  }
-    where
-      at_first : (n : ℕ) → IsKnown n → (P : Picture) → IsLibrary n (state g old).now P → KeepsPictureAt n (state g mid) P → (steps : ℕ)
-          × IsNotLedUp n steps × KeepsPictureAt (n + steps) (state g mid) (led_by steps n P)
-      at_first = since_first (λ n. (P : Picture) → IsLibrary n (state g old).now P → KeepsPictureAt n (state g mid) P → (steps : ℕ)
-          × IsNotLedUp n steps × KeepsPictureAt (n + steps) (state g mid) (led_by steps n P))
-          (λ P is keeps. (0, (omega arith, λ older. omega arith), keeps)) (λ P is keeps. (0, (omega arith, λ older. omega arith), keeps))
-          (λ P is keeps. (0, (omega arith, λ older. older.1), keeps))
+-- What was led up from tables that name a schema at or above this one.
+pub record RisesFrom (from : ℕ) (old new : Database) : Type 0 where
+  pub rows : (n : ℕ) → from ≤ n → IsOlder n → (maps : Maps) → Holds (schema_at n) old maps → NamesSchema maps n
+      → (now : Maps) × Holds (schema_at SCHEMA) new now × AreLedUp n maps now
+  pub same : (n : ℕ) → IsKnown n → (maps : Maps) → Holds (schema_at n) old maps → NamesSchema maps SCHEMA → new ≡ old
+  pub named : (n : ℕ) → IsKnown n → (maps : Maps) → Holds (schema_at n) old maps → (m : ℕ) × NamesSchema maps m × IsKnown m
 
-module _ {S : Type 0} (g : Ghosts S) (settled : Settles g) {old mid new : Held S} (to : ℕ) (less : to < SCHEMA) (first : StepsOn g old mid (Ok to)) where
-  -- What two steps leave after a stop.
-  both_stopped : {r : Result ℕ Fault} → StepsOn g mid new r → HasCleanDisk (state g new) → (n : ℕ) → IsKnown n → (P : Picture)
-      → KeepsPictureAt n (state g old) P → IsOfSchema n P → InLimits P → Leaves (state g new) (IsAtSomeSchema n P)
-  both_stopped second clean n known P keeps of legal trees may = elim (second.survives.crash clean trees may) [
-    | inr brought ↦
-        let is : IsLibrary n (state g old).now P = (keeps.now, of, legal) in
-        let led = (first.done early n (library_there n known (state g old).now P is)).made in
-        let it = from_first to (state g old).now (state g mid).now led less n known P is in (
-          brought.0,
-          subst (λ k. IsLibrary 2 (state g mid).now (led_on k P) → IsAtSomeSchema k P brought.0) (sym it.0)
-              (λ here. (2, (omega arith, (brought.1.1.migrates 2 (omega arith, omega arith) (led_on 1 P) here).1))) it.1,
-          brought.2,
-        )
-    | inl between ↦ elim (first.survives.crash early trees between) [
+-- All due steps from schemas at or above this one: what `Migrates` says of them.
+pub record LeadsUp {S T : Type 0} (from : ℕ) (g : Ghosts S) (old new : Held S) (result : Result T Fault) : Type 0 where
+  pub clean : HasCleanDisk (state g new) → HasCleanDisk (state g old)
+  pub led : HasCleanDisk (state g new) → OnOk result ((n : ℕ) → from ≤ n → IsKnown n → (P : Picture) → IsLibrary n (state g old).now P
+      → KeepsPicture (state g new) (led_by (SCHEMA - n) n P))
+  pub legal : HasCleanDisk (state g new) → (n : ℕ) → from ≤ n → AreThere n (state g old).now → OnOk result (RisesFrom from (state g old).now (state g new).now)
+  pub undone : HasCleanDisk (state g new) → IsTrue (state g new).is_open → OnErr result ((n : ℕ) → from ≤ n → IsKnown n → (P : Picture)
+      → IsLibrary n (state g old).now P → (steps : ℕ) × IsNotLedUp n steps × KeepsPictureAt (n + steps) (state g new) (led_by steps n P))
+  pub nothing : HasCleanDisk (state g new) → IsTrue (state g new).is_open → (n : ℕ) → from ≤ n → AreThere n (state g old).now
+      → OnErr result (IsUndone (state g old) (state g new) ⊎ IsLedInPart (state g old) (state g new))
+  pub stop : HasCleanDisk (state g new) → (n : ℕ) → from ≤ n → IsKnown n → (P : Picture) → KeepsPictureAt n (state g old) P → IsOfSchema n P → InLimits P
+      → Leaves (state g new) (IsAtSomeSchema n P)
+  pub stop_damaged : HasCleanDisk (state g new) → CannotBeLed (state g old).now
+      → Leaves (state g old) (λ db. db ≡ (state g old).now) → Leaves (state g new) (λ db. db ≡ (state g old).now)
+  pub sound : HasCleanDisk (state g new) → result ≡ Err Stored → (n : ℕ) → from ≤ n → IsKnown n → (P : Picture) → ¬ IsLibrary n (state g old).now P
+
+-- What is led on once more is led up from the schema before.
+led_up : (n : ℕ) → IsOlder n → IsOlder (suc n) → (a b c : Maps) → AreLedOn n a b → AreLedUp (suc n) b c → AreLedUp n a c
+led_up = of_older_each (λ n. IsOlder (suc n) → (a b c : Maps) → AreLedOn n a b → AreLedUp (suc n) b c → AreLedUp n a c)
+    (λ next a b c led up. (b, led, up)) (λ next a b c led up. (b, led, up)) (λ next. let low : 4 < SCHEMA = next.1 in absurd (omega (arith, low)))
+
+led_more : (n : ℕ) → IsOlder n → (P : Picture) → led_by (SCHEMA - suc n) (suc n) (led_on n P) ≡ led_by (SCHEMA - n) n P
+led_more = of_older_each (λ n. (P : Picture) → led_by (SCHEMA - suc n) (suc n) (led_on n P) ≡ led_by (SCHEMA - n) n P)
+    (λ P. refl) (λ P. refl) (λ P. refl)
+
+module _ {S : Type 0} (g : Ghosts S) (settled : Settles g) where
+  module _ {old mid : Held S} where
+    -- What a stop of one step leaves.
+    step_stopped : {r : Result ℕ Fault} → StepsOn g old mid r → HasCleanDisk (state g mid) → (n : ℕ) → IsKnown n → (P : Picture)
+        → KeepsPictureAt n (state g old) P → IsOfSchema n P → InLimits P → Leaves (state g mid) (IsAtSomeSchema n P)
+    step_stopped step clean n known P keeps of legal trees may = elim (step.survives.crash clean trees may) [
       | inl before ↦ let it = keeps.left trees before in (it.0, as_it_was it.0 n known P it.1, it.2)
       | inr brought ↦ (brought.0, brought_one (state g old).now brought.0 brought.1 n known P (keeps.now, of, legal), brought.2)
     ]
-  ]
-    where
-      early : HasCleanDisk (state g mid)
-      early = omega (arith, second.survives.clean, clean)
 
-  -- The first step led to an older one, and the second from there to the newest.
-  pub two_steps : {T : Type 0} (last : ℕ) (t : T) → StepsOn g mid new (Ok last) → Migrates {S = S} {T = T} g old new (Ok t)
-  two_steps last t second = record {
-    clean = λ clean. omega (arith, first.survives.clean, second.survives.clean, clean);
-    led = λ clean n known P is.
-        let early : HasCleanDisk (state g mid) = omega (arith, second.survives.clean, clean) in
-        let it = from_first to (state g old).now (state g mid).now (first.done early n (library_there n known (state g old).now P is)).made less n known P is in
-        let done = second.done clean 2 (library_there 2 (omega arith, omega arith) (state g mid).now (led_on n P) it.1) in
-        open_keeps g settled SCHEMA (state g new).now new (led_by (SCHEMA - n) n P) done.is_open refl done.committed
-        (subst (λ k. IsLibrary 2 (state g mid).now (led_on k P) → HasPictureAt SCHEMA (state g new).now (led_by (SCHEMA - k) k P))
-        (sym it.0) (λ here. (done.made.migrates 2 (omega arith, omega arith) (led_on 1 P) here).1) it.1);
-    legal = λ clean n there.
-        let early : HasCleanDisk (state g mid) = omega (arith, second.survives.clean, clean) in
-        let made = (first.done early n there).made in
-        let next = (second.done clean 2 (between_there to (state g old).now (state g mid).now made less n there).1).made in
-        record {
-          rows = both_rows made next;
+    step_stopped_damaged : {r : Result ℕ Fault} → StepsOn g old mid r → HasCleanDisk (state g mid) → CannotBeLed (state g old).now
+        → Leaves (state g old) (λ db. db ≡ (state g old).now) → Leaves (state g mid) (λ db. db ≡ (state g old).now)
+    step_stopped_damaged step clean cannot left trees may = elim (step.survives.crash clean trees may) [
+      | inl before ↦ left trees before
+      | inr brought ↦ (brought.0, stays_damaged (state g old).now brought.0 brought.1 cannot, brought.2)
+    ]
+
+    -- One step is all that is due: of the older schemas it can only have been the last.
+    pub leads_one : {T : Type 0} (from to : ℕ) (t : T) → ((n : ℕ) → from ≤ n → IsOlder n → to ≡ next_schema n → n ≡ 3)
+        → StepsOn g old mid (Ok to) → LeadsUp {S = S} {T = T} from g old mid (Ok t)
+    leads_one from to t last step = record {
+      clean = λ clean. omega (arith, step.survives.clean, clean);
+      led = λ clean n least known P is.
+          let done = step.done clean n (library_there n known (state g old).now P is) in
+          open_keeps g settled SCHEMA (state g mid).now mid (led_by (SCHEMA - n) n P) done.is_open refl done.committed
+          (newest_led done.made n known least P is);
+      legal = λ clean n least there.
+          let made = (step.done clean n there).made in
+          record { rows = newest_rows made; same = λ m known maps holds names. (made.same m known maps holds names).1; named = made.named };
+      undone = λ clean is_open. tt;
+      nothing = λ clean is_open n least there. tt;
+      stop = λ clean n least. step_stopped step clean n;
+      stop_damaged = step_stopped_damaged step;
+      sound = λ clean told n least known P is. (let never : ⊥ = cc in never);
+    }
+      where
+        newest_led : MigratesOn to (state g old).now (state g mid).now → (n : ℕ) → IsKnown n → from ≤ n → (P : Picture) → IsLibrary n (state g old).now P
+            → HasPictureAt SCHEMA (state g mid).now (led_by (SCHEMA - n) n P)
+        newest_led made = since_first (λ n. from ≤ n → (P : Picture) → IsLibrary n (state g old).now P
+            → HasPictureAt SCHEMA (state g mid).now (led_by (SCHEMA - n) n P))
+            (λ least P is. let three = last 1 least (omega arith, omega arith) (made.migrates 1 (omega arith, omega arith) P is).0 in absurd (omega (arith, three)))
+            (λ least P is. let three = last 2 least (omega arith, omega arith) (made.migrates 2 (omega arith, omega arith) P is).0 in absurd (omega (arith, three)))
+            (λ least P is. (made.migrates 3 (omega arith, omega arith) P is).1)
+            (λ least P is. (made.migrates 4 newest_known P is).1)
+
+        newest_rows : MigratesOn to (state g old).now (state g mid).now → (n : ℕ) → from ≤ n → IsOlder n → (maps : Maps)
+            → Holds (schema_at n) (state g old).now maps → NamesSchema maps n
+            → (now : Maps) × Holds (schema_at SCHEMA) (state g mid).now now × AreLedUp n maps now
+        newest_rows made n least older = of_older_each (λ n. from ≤ n → (maps : Maps) → Holds (schema_at n) (state g old).now maps → NamesSchema maps n
+            → (now : Maps) × Holds (schema_at SCHEMA) (state g mid).now now × AreLedUp n maps now)
+            (λ least maps holds names.
+            let three = last 1 least (omega arith, omega arith) (made.rows 1 (omega arith, omega arith) maps holds names).0 in absurd (omega (arith, three)))
+            (λ least maps holds names.
+            let three = last 2 least (omega arith, omega arith) (made.rows 2 (omega arith, omega arith) maps holds names).0 in absurd (omega (arith, three)))
+            (λ least maps holds names. (made.rows 3 (omega arith, omega arith) maps holds names).1)
+            n older least
+
+    -- It failed.
+    pub leads_failed : {T : Type 0} (from : ℕ) {fault : Fault} (r : Result T Fault) → IsErr r × IsErrAnd r (λ e. e ≡ fault)
+        → StepsOn g old mid (Err fault) → LeadsUp from g old mid r
+    leads_failed from (Ok x) is step = absurd (let none = is.0 in cc)
+    leads_failed {T} from {fault} (Err e) is step = record {
+      clean = λ clean. omega (arith, step.survives.clean, clean);
+      led = λ clean. tt;
+      legal = λ clean n least there. tt;
+      undone = λ clean is_open n least known P is.
+          let same = step.undone clean is_open n (library_there n known (state g old).now P is) in
+          at_first n known P is (open_keeps g settled n (state g old).now mid P is_open same.0 same.1 is.0);
+      nothing = λ clean is_open n least there. inl (step.undone clean is_open n there);
+      stop = λ clean n least. step_stopped step clean n;
+      stop_damaged = step_stopped_damaged step;
+      sound = λ clean told n least known P library.
+          let named : e ≡ Stored = cc in
+          let same : fault ≡ Stored = sym is.1 ∙ named in
+          let failed : Fault → Result ℕ Fault = λ f. Err f in
+          step.sound clean (ap failed same) n known P library;
+    }
+      where
+        at_first : (n : ℕ) → IsKnown n → (P : Picture) → IsLibrary n (state g old).now P → KeepsPictureAt n (state g mid) P → (steps : ℕ)
+            × IsNotLedUp n steps × KeepsPictureAt (n + steps) (state g mid) (led_by steps n P)
+        at_first = since_first (λ n. (P : Picture) → IsLibrary n (state g old).now P → KeepsPictureAt n (state g mid) P → (steps : ℕ)
+            × IsNotLedUp n steps × KeepsPictureAt (n + steps) (state g mid) (led_by steps n P))
+            (λ P is keeps. (0, (omega arith, λ older. omega arith), keeps)) (λ P is keeps. (0, (omega arith, λ older. omega arith), keeps))
+            (λ P is keeps. (0, (omega arith, λ older. omega arith), keeps)) (λ P is keeps. (0, (omega arith, λ older. older.1), keeps))
+
+  -- A step led to an older schema, and the others from there.
+  pub leads_then : {T : Type 0} {old mid new : Held S} (from to : ℕ) (r : Result T Fault) → to < SCHEMA → StepsOn g old mid (Ok to)
+      → LeadsUp (suc from) g mid new r → LeadsUp from g old new r
+  leads_then {old = old} {mid = mid} {new = new} from to r less first rest = record {
+    clean = λ clean. let early = rest.clean clean in omega (arith, first.survives.clean, early);
+    led = λ clean. on_ok r (λ led n least known P is.
+        let at = between clean n known P is in
+        subst (KeepsPicture (state g new)) (led_more n (known.0, (let low = at.older.1 in omega (arith, low))) P)
+        (led (suc n) (omega (arith, least)) at.known (led_on n P) at.library)) (rest.led clean);
+    legal = λ clean n least there.
+        let made = (first.done (rest.clean clean) n there).made in
+        on_ok r (λ rises. record {
+          rows = both_rows made rises;
           same = λ m known maps holds names. (let told = (made.same m known maps holds names).0 in absurd (omega (arith, told, less)));
           named = made.named;
-        };
-    undone = λ clean is_open. tt;
-    nothing = λ clean is_open n there. tt;
-    stop = both_stopped second;
+        }) (rest.legal clean (suc n) (omega (arith, least)) (next_there to (state g old).now (state g mid).now made less n there));
+    undone = λ clean is_open. on_err r (λ back n least known P is.
+        let at = between clean n known P is in
+        let it = back (suc n) (omega (arith, least)) at.known (led_on n P) at.library in
+        let same : suc n + it.0 ≡ n + suc it.0 = omega arith in (
+          suc it.0,
+          ((let few = it.1.0 in omega (arith, few, same)), λ older. (let low = it.1.1 at.older in omega (arith, low, same))),
+          subst (λ k. KeepsPictureAt k (state g new) (led_by it.0 (suc n) (led_on n P))) same it.2,
+        )) (rest.undone clean is_open);
+    nothing = λ clean is_open n least there.
+        let made = (first.done (rest.clean clean) n there).made in
+        on_err r (λ left. in_part made left)
+        (rest.nothing clean is_open (suc n) (omega (arith, least)) (next_there to (state g old).now (state g mid).now made less n there));
+    stop = λ clean n least known P keeps of legal trees may.
+        let is : IsLibrary n (state g old).now P = (keeps.now, of, legal) in
+        let done = first.done (rest.clean clean) n (library_there n known (state g old).now P is) in
+        let at = between clean n known P is in
+        let it =
+        rest.stop clean (suc n) (omega (arith, least)) at.known (led_on n P)
+        (open_keeps g settled (suc n) (state g mid).now mid (led_on n P) done.is_open refl done.committed at.library.0) at.library.1 at.library.2
+        trees may in
+        (it.0, one_more n known P it.0 it.1, it.2);
     stop_damaged = λ clean cannot left.
-        let early : HasCleanDisk (state g mid) = omega (arith, second.survives.clean, clean) in
-        absurd (not_damaged to (state g old).now (state g mid).now (first.done early cannot.at cannot.there).made less cannot);
-    sound = λ clean told n known P is. (let never : ⊥ = cc in never);
+        absurd (not_damaged to (state g old).now (state g mid).now (first.done (rest.clean clean) cannot.at cannot.there).made less cannot);
+    sound = λ clean told n least known P library.
+        let at = between clean n known P library in
+        rest.sound clean told (suc n) (omega (arith, least)) at.known (led_on n P) at.library;
   }
     where
-      both_rows : MigratesOn to (state g old).now (state g mid).now → MigratesOn last (state g mid).now (state g new).now → (n : ℕ) → IsOlder n
-          → (maps : Maps) → Holds (schema_at n) (state g old).now maps → NamesSchema maps n
-          → (now : Maps) × Holds (schema_at SCHEMA) (state g new).now now × AreLedUp n maps now
-      both_rows made next n older = since_first (λ n. (maps : Maps) → Holds (schema_at n) (state g old).now maps → NamesSchema maps n
-          → (now : Maps) × Holds (schema_at SCHEMA) (state g new).now now × AreLedUp n maps now)
-          (λ maps holds names.
-          let one = (made.rows 1 (omega arith, omega arith) maps holds names).1 in
-          let two = (next.rows 2 (omega arith, omega arith) one.0 one.1 one.2.named).1 in
-          (two.0, two.1, (one.0, one.2, two.2)))
-          (λ maps holds names. let told = (made.rows 2 (omega arith, omega arith) maps holds names).0 in absurd (omega (arith, told, less)))
-          (λ maps holds names. let told = (made.same 3 newest_known maps holds names).0 in absurd (omega (arith, told, less)))
-          n (of_older n older)
+      between : HasCleanDisk (state g new) → (n : ℕ) → IsKnown n → (P : Picture) → IsLibrary n (state g old).now P → LedOn n (state g mid).now P
+      between clean n known P is =
+          led_library to (state g old).now (state g mid).now
+          (first.done (rest.clean clean) n (library_there n known (state g old).now P is)).made less n known P is
 
-  -- The second failed.
-  pub second_failed : {T : Type 0} {fault : Fault} (r : Result T Fault) → IsErr r × IsErrAnd r (λ e. e ≡ fault)
-      → StepsOn g mid new (Err fault) → Migrates g old new r
-  second_failed (Ok x) is second = absurd (let none = is.0 in cc)
-  second_failed {T} {fault} (Err e) is second = record {
-    clean = λ clean. omega (arith, first.survives.clean, second.survives.clean, clean);
-    led = λ clean. tt;
-    legal = λ clean n there. tt;
-    undone = λ clean is_open n known P library.
-        let early : HasCleanDisk (state g mid) = omega (arith, second.survives.clean, clean) in
-        let it = from_first to (state g old).now (state g mid).now
-        (first.done early n (library_there n known (state g old).now P library)).made less n known P library in
-        let same = second.undone clean is_open 2 (library_there 2 (omega arith, omega arith) (state g mid).now (led_on n P) it.1) in
-        subst (λ k. IsLibrary 2 (state g mid).now (led_on k P) → (steps : ℕ) × IsNotLedUp k steps
-        × KeepsPictureAt (k + steps) (state g new) (led_by steps k P)) (sym it.0)
-        (λ here. (1, (omega arith, λ older. omega arith), open_keeps g settled 2 (state g mid).now new (led_on 1 P) is_open same.0 same.1 here.0)) it.1;
-    nothing = λ clean is_open n there.
-        let early : HasCleanDisk (state g mid) = omega (arith, second.survives.clean, clean) in
-        let made = (first.done early n there).made in
-        let same = second.undone clean is_open 2 (between_there to (state g old).now (state g mid).now made less n there).1 in
-        inr (record { to = to; older = less; led = subst (λ d. MigratesOn to (state g old).now d) (sym same.0) made; committed = same.1 ∙ sym same.0 });
-    stop = both_stopped second;
-    stop_damaged = λ clean cannot left.
-        let early : HasCleanDisk (state g mid) = omega (arith, second.survives.clean, clean) in
-        absurd (not_damaged to (state g old).now (state g mid).now (first.done early cannot.at cannot.there).made less cannot);
-    sound = λ clean told n known P library.
-        let early : HasCleanDisk (state g mid) = omega (arith, second.survives.clean, clean) in
-        let it = from_first to (state g old).now (state g mid).now
-        (first.done early n (library_there n known (state g old).now P library)).made less n known P library in
-        let named : e ≡ Stored = cc in
-        let same : fault ≡ Stored = sym is.1 ∙ named in
-        let failed : Fault → Result ℕ Fault = λ f. Err f in
-        second.sound clean (ap failed same) 2 (omega arith, omega arith) (led_on n P) it.1;
+      both_rows : MigratesOn to (state g old).now (state g mid).now → RisesFrom (suc from) (state g mid).now (state g new).now
+          → (n : ℕ) → from ≤ n → IsOlder n → (maps : Maps) → Holds (schema_at n) (state g old).now maps → NamesSchema maps n
+          → (now : Maps) × Holds (schema_at SCHEMA) (state g new).now now × AreLedUp n maps now
+      both_rows made rises n least older maps holds names =
+          let it = led_maps to (state g old).now (state g mid).now made less n older maps holds names in
+          let up = rises.rows (suc n) (omega (arith, least)) it.older it.between it.holds it.names in
+          (up.0, up.1, led_up n older it.older maps it.between up.0 it.led up.2)
+
+      in_part : MigratesOn to (state g old).now (state g mid).now → IsUndone (state g mid) (state g new) ⊎ IsLedInPart (state g mid) (state g new)
+          → IsUndone (state g old) (state g new) ⊎ IsLedInPart (state g old) (state g new)
+      in_part made (inl same) = inr (record { steps = 0; led = (to, less, ((state g mid).now, made, same.0)); committed = same.1 ∙ sym same.0 })
+      in_part made (inr led) = inr (record { steps = suc led.steps; led = (to, less, ((state g mid).now, made, led.led)); committed = led.committed })
+
+  -- All steps from the first schema on.
+  pub migrates_all : {T : Type 0} {old new : Held S} (r : Result T Fault) → LeadsUp 1 g old new r → Migrates g old new r
+  migrates_all {old = old} {new = new} r all = record {
+    clean = all.clean;
+    led = λ clean. on_ok r (λ led n known P is. led n known.0 known P is) (all.led clean);
+    legal = λ clean n there. on_ok r (λ rises. record {
+      rows = λ m older. rises.rows m older.0 older;
+      same = rises.same;
+      named = rises.named;
+    }) (all.legal clean n there.known.0 there);
+    undone = λ clean is_open. on_err r (λ back n known P is. back n known.0 known P is) (all.undone clean is_open);
+    nothing = λ clean is_open n there. on_err r (λ left. as_told is_open left) (all.nothing clean is_open n there.known.0 there);
+    stop = λ clean n known P keeps of legal. all.stop clean n known.0 known P keeps of legal;
+    stop_damaged = all.stop_damaged;
+    sound = λ clean told n known P. all.sound clean told n known.0 known P;
   }
+    where
+      as_told : IsTrue (state g new).is_open → IsUndone (state g old) (state g new) ⊎ IsLedInPart (state g old) (state g new)
+          → IsAsItWas (state g old) (state g new) ⊎ IsLedInPart (state g old) (state g new)
+      as_told is_open (inr led) = inr led
+      as_told is_open (inl same) = inl (record {
+        now = same.0;
+        left = λ trees may. let it = leaves_committed g settled new (λ db. db ≡ (state g old).now) is_open same.1 trees may in
+            inr (it.2 ∙ ap (λ (db : Database). db.trees) it.1);
+      })
+
+-- A step that led to the newest schema was made from it, or from the one before; so was one from the third on.
+pub from_newest : (from to : ℕ) → SCHEMA ≤ to → (n : ℕ) → from ≤ n → IsOlder n → to ≡ next_schema n → n ≡ 3
+from_newest from to most n least = of_older_each (λ n. to ≡ next_schema n → n ≡ 3)
+    (λ next. absurd (omega (arith, next, most))) (λ next. absurd (omega (arith, next, most))) (λ next. refl) n
+
+pub from_third : (to n : ℕ) → 3 ≤ n → IsOlder n → to ≡ next_schema n → n ≡ 3
+from_third to n least older next = let less = older.1 in omega (arith, least, less)

@@ -8,6 +8,7 @@ use Rattle.sqlite.specs.State.{HasCleanDisk}
 use Rattle.sqlite.specs.Store.{Ghosts}
 use Rattle.sqlite_rules.specs.Lists.{Has}
 use Rattle.sql_maps.specs.Maps.{Maps, Holds, PairBelow}
+use Rattle.circ_tables.specs.Barcodes.{barcodes}
 use Rattle.circ_tables.specs.Branches.{branches}
 use Rattle.circ_tables.specs.Cells.{meta_cells, kept_cells}
 use Rattle.circ_tables.specs.ClosedDays.{closed_days}
@@ -18,6 +19,7 @@ use Rattle.circ_tables.specs.Kept.{kept}
 use Rattle.circ_tables.specs.Kinds.{kinds}
 use Rattle.circ_tables.specs.Lines.{lines}
 use Rattle.circ_tables.specs.Loans.{loans}
+use Rattle.circ_tables.specs.Notes.{notes}
 use Rattle.circ_tables.specs.Patrons.{patrons}
 use Rattle.circ_tables.specs.Reading.{Table, Views}
 use Rattle.circ_tables.specs.Rules.{rules}
@@ -54,14 +56,20 @@ pub record HasLegalDealings (maps : Maps) : Type 0 where
   pub transits : HasLegal transits maps
   pub lines : HasLegal lines maps
 
+-- For barcodes and notes.
+pub record HasLegalLabels (maps : Maps) : Type 0 where
+  pub barcodes : HasLegal barcodes maps
+  pub notes : HasLegal notes maps
+
 -- For all tables but those of older schemas, which the newest leaves empty.
 pub record HasLegalTables (maps : Maps) : Type 0 where
   pub registers : HasLegalRegisters maps
   pub holdings : HasLegalHoldings maps
   pub dealings : HasLegalDealings maps
+  pub labels : HasLegalLabels maps
   pub kept : HasLegal kept maps
 
--- Every row of these thirteen tables is within its limits: none is damaged.
+-- Every row of these fifteen tables is within its limits: none is damaged.
 abbrev pub HasLegalRows : Database → Type 0
 HasLegalRows db = (maps : Maps) → Holds schema db maps → HasLegalTables maps
 

@@ -21,6 +21,7 @@ use Rattle.circ_tables.specs.LoansOfSchema1.{loans1}
 use Rattle.circ_tables.specs.RulesOfSchema1.{rules1}
 use Rattle.circ_tables.specs.SchemaNumber.{NamesSchema}
 use Rattle.circ_tables.specs.Shape.{schema_at, meta_place, rules1_place, loans1_place, holds1_place, holds_place, rules_place}
+use Rattle.circ_tables.specs.Shape.{barcodes_place, notes_place}
 use Rattle.circ_tables.specs.Holds.{holds}
 use Rattle.circ_tables.specs.Loans.{loans}
 use Rattle.circ_tables.specs.Rules.{rules}
@@ -28,6 +29,7 @@ use Rattle.store.specs.Carrying.{AreCarried, MigratesInside}
 use Rattle.store.specs.Commit.{Brings, HasDone}
 use Rattle.store.specs.Legal.{HasLegal}
 use Rattle.store.specs.Library.{IsAsItWas, StaysReady}
+use Rattle.store.specs.Older.{IsEmpty}
 use Rattle.store.specs.Schemas.{IsKnown, IsOlder, next_schema}
 use Rattle.store.specs.Stops.{Leaves, KeepsPicture, KeepsPictureAt}
 use Rattle.store.specs.Transfers.{holds_transfer, loans_transfer, rules_transfer}
@@ -50,22 +52,25 @@ abbrev pub IsLibrary : ℕ → Database → Picture → Type 0
 IsLibrary n db P = HasPictureAt n db P × IsOfSchema n P × InLimits P
 
 -- In tables of an older schema, no row that the next step carries over or changes is damaged: in schema 1 the
--- holds, in schema 2 the rules and the loans, and that of `meta`.
+-- holds, in schema 2 the rules and the loans, and in each that of `meta`.
 abbrev pub CanBeLed : ℕ → Maps → Type 0
 CanBeLed (suc zero) maps = AreEncoded meta_cells IsMeta (maps meta_place) × HasLegal holds1 maps
 CanBeLed (suc (suc zero)) maps = AreEncoded meta_cells IsMeta (maps meta_place) × HasLegal rules1 maps × HasLegal loans1 maps
+CanBeLed (suc (suc (suc zero))) maps = AreEncoded meta_cells IsMeta (maps meta_place)
 CanBeLed _ maps = Unit {0}
 
 -- The step neither takes rows out of the table at this place nor changes it.
 abbrev pub IsLeft : ℕ → ℕ → Type 0
 IsLeft (suc zero) at = (at < holds_place) × ((at == meta_place) ≡ false) × ((at == holds1_place) ≡ false)
 IsLeft (suc (suc zero)) at = (at < rules_place) × ((at == meta_place) ≡ false) × ((at == rules1_place) ≡ false) × ((at == loans1_place) ≡ false)
+IsLeft (suc (suc (suc zero))) at = (at < barcodes_place) × ((at == meta_place) ≡ false)
 IsLeft _ at = Unit {0}
 
--- Each row of the tables that the step carries over is in its new table.
+-- Each row of the tables that the step carries over is in its new table; the tables of schema 4 begin empty.
 abbrev pub HaveArrived : ℕ → Maps → Maps → Type 0
 HaveArrived (suc zero) maps now = AreCarried holds1 holds holds_transfer maps now
 HaveArrived (suc (suc zero)) maps now = AreCarried rules1 rules rules_transfer maps now × AreCarried loans1 loans loans_transfer maps now
+HaveArrived (suc (suc (suc zero))) maps now = IsEmpty (now barcodes_place) × IsEmpty (now notes_place)
 HaveArrived _ maps now = Unit {0}
 
 -- The maps of an older schema were migrated to these: no row that was carried over or changed was damaged,
@@ -156,8 +161,9 @@ IsAtSomeSchema n P db = (steps : ℕ) × IsLedBy steps n P db
 -- The maps of schema n were migrated to those of the newest, schema by schema: at no step was a row damaged
 -- that it carries over or changes.
 abbrev pub AreLedUp : ℕ → Maps → Maps → Type 0
-AreLedUp (suc zero) maps now = (between : Maps) × AreLedOn 1 maps between × AreLedOn 2 between now
-AreLedUp (suc (suc zero)) maps now = AreLedOn 2 maps now
+AreLedUp (suc zero) maps now = (second : Maps) × AreLedOn 1 maps second × ((third : Maps) × AreLedOn 2 second third × AreLedOn 3 third now)
+AreLedUp (suc (suc zero)) maps now = (third : Maps) × AreLedOn 2 maps third × AreLedOn 3 third now
+AreLedUp (suc (suc (suc zero))) maps now = AreLedOn 3 maps now
 AreLedUp _ maps now = Unit {0}
 
 -- Tables that name their own schema were migrated to the newest, whatever they show; if they name the newest
@@ -175,11 +181,15 @@ pub record CannotBeLed (db : Database) : Type 0 where
   pub there : AreThere at db
   pub damaged : ¬ CanBeLed at there.maps
 
--- The tables are as the first of two steps left them, committed; it didn't lead to the newest schema.
+-- This many steps were made, one after the other, and none led to the newest schema.
+abbrev pub AreMade : ℕ → Database → Database → Type 0
+AreMade zero old new = new ≡ old
+AreMade (suc steps) old new = (to : ℕ) × (to < SCHEMA) × ((between : Database) × MigratesOn to old between × AreMade steps between new)
+
+-- The tables are as some of the steps left them, committed: at least one, and not up to the newest schema.
 pub record IsLedInPart (old new : State) : Type 0 where
-  pub to : ℕ
-  pub older : to < SCHEMA
-  pub led : MigratesOn to old.now new.now
+  pub steps : ℕ
+  pub led : AreMade (suc steps) old.now new.now
   pub committed : new.committed ≡ new.now
 
 -- This many steps lead on from schema n, and from an older one not to the newest.

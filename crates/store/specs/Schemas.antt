@@ -14,4 +14,5 @@ IsOlder n = (1 ≤ n) × (n < SCHEMA)
 abbrev pub next_schema : ℕ → ℕ
 next_schema (suc zero) = 2
 next_schema (suc (suc zero)) = 3
+next_schema (suc (suc (suc zero))) = 4
 next_schema _ = SCHEMA

@@ -78,6 +78,8 @@ holds_carried = record {
     transits = is.transits;
     lines = is.lines;
     kept = is.kept;
+    barcodes = is.barcodes;
+    notes = is.notes;
   };
 }
 
@@ -123,6 +125,8 @@ loans_carried = record {
     transits = is.transits;
     lines = is.lines;
     kept = is.kept;
+    barcodes = is.barcodes;
+    notes = is.notes;
   };
 }
 
@@ -169,5 +173,7 @@ rules_carried = record {
     transits = is.transits;
     lines = is.lines;
     kept = is.kept;
+    barcodes = is.barcodes;
+    notes = is.notes;
   };
 }

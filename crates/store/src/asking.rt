@@ -2,7 +2,7 @@
 
 ghost use Rattle.std.specs.Prelude.{◌≡◌};
 ghost use Rattle.terms.specs.Limits.{InLimits};
-ghost use Rattle.circ_core.specs.Views.{IsCopyView, IsFirstOf, IsLoanOf, IsTravelFor};
+ghost use Rattle.circ_core.specs.Views.{IsCopyView, IsFirstOf, IsLoanOf, IsThingOf, IsTravelFor};
 ghost use Rattle.store.specs.Batches.{AreAccountLinesAfter, AreCopiesAfter, AreDebtorsAfter};
 ghost use Rattle.store.specs.Batches.{AreLoansOfAfter, AreMissingAfter};
 ghost use Rattle.store.specs.Batches.{AreTransitsAfter, AreWaitingAfter, AreWaitingForAfter};
@@ -10,24 +10,53 @@ ghost use Rattle.store.specs.Batches.{AreRowsAfter, AreClosedDaysAfter, IsLeastS
 ghost use Rattle.store.specs.Reads.{Looked};
 
 use crate::idle::committed_is_held;
+use crate::one_row::labelled;
 use crate::store::Store;
 use crate::viewing::copy_view;
 use calendar::Day;
 use circ_core::View;
 use circ_tables::{
     account_lines_after, closed_days_after, copies_of_title_after, debtors_after, first_in_line,
-    get_row, least_shelved, loans_of_copy_after, missing_copies_after, next_rows, open_loan_of,
-    rules_after, transit_for, transits_to_after, waiting_holds_after, waiting_holds_for_after,
+    get_barcode, get_row, least_shelved, loans_of_copy_after, missing_copies_after, next_rows,
+    open_loan_of, rules_after, transit_for, transits_to_after, waiting_holds_after,
+    waiting_holds_for_after,
 };
 use sqlite::Alter;
 use std::alloc::Global;
 use terms::{
-    BranchId, BranchRow, ClosedDayRow, CopyId, CopyKind, CopyRow, DayNumber, Fault, HoldId,
-    HoldRow, KindRow, LineId, LineRow, LoanId, LoanRow, PatronId, PatronKind, PatronRow, RuleRow,
-    TitleId, TitleRow, TransitRow,
+    Barcode, BarcodeRow, BranchId, BranchRow, ClosedDayRow, CopyId, CopyKind, CopyRow, DayNumber,
+    Fault, HoldId, HoldRow, KindRow, LineId, LineRow, LoanId, LoanRow, NoteRow, PatronId,
+    PatronKind, PatronRow, RuleRow, Thing, TitleId, TitleRow, TransitRow,
 };
 
 impl<S: Alter> Store<S> {
+    /// Reads which copy or patron has the barcode, if any has. Faults 90, 91, 93.
+    pub fn find_barcode(&mut self, alloc: Global, barcode: &Barcode) -> Result<Option<Thing>, Fault>
+        ensures { Looked InLimits (λ P thing. IsThingOf P barcode.now thing) InLimits
+            S.Store self.old self.new result }
+    {
+        committed_is_held(&self.conn);
+        labelled(&mut self.conn, alloc, barcode)
+    }
+
+    /// Reads the barcode of a copy or a patron, if it has one. Faults 90, 91, 93.
+    pub fn barcode(&mut self, alloc: Global, thing: Thing) -> Result<Option<BarcodeRow>, Fault>
+        ensures { Looked InLimits (λ P row. row ≡ P.barcodes thing) InLimits
+            S.Store self.old self.new result }
+    {
+        committed_is_held(&self.conn);
+        get_barcode(&mut self.conn, alloc, thing)
+    }
+
+    /// Reads the note of a line, if it has one. Faults 90, 91, 93.
+    pub fn note(&mut self, alloc: Global, line: LineId) -> Result<Option<NoteRow>, Fault>
+        ensures { Looked InLimits (λ P row. row ≡ P.notes line) InLimits
+            S.Store self.old self.new result }
+    {
+        committed_is_held(&self.conn);
+        get_row::<NoteRow, S>(&mut self.conn, alloc, line)
+    }
+
     /// Reads a batch of a title's copies above this number, by number. Faults 90, 91, 93.
     pub fn copies_of_title(
         &mut self,

@@ -1,69 +1,19 @@
 //! Reading tables that grow with the library, in batches.
 
-ghost use Rattle.std.specs.Prelude.{◌≡◌, ◌++◌, true, filter, option_map, slice_get, length};
+ghost use Rattle.std.specs.Prelude.{◌≡◌, ◌++◌, option_map, slice_get, length};
 ghost use Rattle.std.specs.Prelude.{◌-◌, OnOk, IfErr};
 ghost use Rattle.sql_maps.specs.Maps.{PairBelow};
 ghost use Rattle.circ_tables.specs.Cells.{kept_cells};
 ghost use Rattle.circ_tables.specs.Kept.{kept};
 ghost use Rattle.circ_tables.specs.Reading.{Views};
-ghost use Rattle.store.specs.Lists.{AreRows};
+ghost use Rattle.store.specs.Lists.{AreRows, AllPass};
 ghost use Rattle.store.specs.Legal.{HasLegal, Reviews, OverMaps, IsKeptBatch};
 ghost use Rattle.store.specs.Batches.{IsPassedOver};
 
 use circ_tables::{Numbered, first_kept, kept_after, kept_past, next_rows};
 use sqlite::{Alter, Connection};
 use std::alloc::Global;
-use terms::{Fault, KeptRow, LoanRow, Rows};
-
-/// A filter of the rows read.
-pub(crate) trait Sift<R> {
-    ghost use Rattle.std.specs.Prelude.{◌≡◌, Bool};
-
-    ghost test: { R → Bool };
-
-    /// Returns whether a row is kept.
-    fn keeps(row: &R) -> bool
-        ensures { result ≡ test row.now };
-}
-
-/// Keeps every row.
-pub(crate) struct EachRow;
-
-impl<R> Sift<R> for EachRow {
-    ghost use Rattle.std.specs.Prelude.{true};
-
-    ghost test = { λ _. true };
-
-    fn keeps(_row: &R) -> bool {
-        true
-    }
-}
-
-/// Keeps none: the rows are only read.
-pub(crate) struct NoRow;
-
-impl<R> Sift<R> for NoRow {
-    ghost use Rattle.std.specs.Prelude.{false};
-
-    ghost test = { λ _. false };
-
-    fn keeps(_row: &R) -> bool {
-        false
-    }
-}
-
-/// Keeps the open loans.
-pub(crate) struct OpenLoans;
-
-impl Sift<LoanRow> for OpenLoans {
-    ghost use Rattle.std.specs.Prelude.{is_none};
-
-    ghost test = { λ r. is_none r.ended };
-
-    fn keeps(row: &LoanRow) -> bool {
-        row.ended.is_none()
-    }
-}
+use terms::{Fault, KeptRow, Rows};
 
 /// Returns the number of the last row of a batch, if any.
 pub(crate) fn last_of<R: Numbered>(batch: &[R]) -> Option<u32>
@@ -75,41 +25,37 @@ pub(crate) fn last_of<R: Numbered>(batch: &[R]) -> Option<u32>
     }
 }
 
-/// Appends the rows of a batch that pass the filter. Fault 90.
-fn keep_batch<R: Numbered, F: Sift<R>>(kept: &mut Vec<R>, batch: Vec<R>) -> Result<(), Fault>
-    ensures kept { OnOk result (kept.new.items ≡ kept.old.items ++ filter F.test batch.items) }
+/// Appends the rows of a batch. Fault 90.
+fn add_batch<R: Numbered>(rows: &mut Vec<R>, batch: Vec<R>) -> Result<(), Fault>
+    ensures rows { OnOk result (rows.new.items ≡ rows.old.items ++ batch.items) }
     ensures fault { IfErr result (λ fault. fault ≡ Fault.Memory) }
 {
     for row in batch {
-        if F::keeps(&row) {
-            kept.push(row)?;
-        }
+        rows.push(row)?;
     }
     Ok(())
 }
 
-/// Reads all rows of a table in batches and keeps those that pass the filter, by number. Faults 90,
-/// 91, 93.
-pub(crate) fn read_batches<R: Numbered, F: Sift<R>, S: Alter>(
+/// Reads all rows of a table in batches, by number. Faults 90, 91, 93.
+pub(crate) fn read_batches<R: Numbered, S: Alter>(
     conn: &mut Connection<S>,
     alloc: Global,
     memory: R::Memory,
 ) -> Result<Rows<R>, Fault>
-    ensures { Reviews
-        (λ P rows. AreRows (R.table.rows P) R.number_of (λ r. F.test r ≡ true) rows)
+    ensures { Reviews (λ P rows. AreRows (R.table.rows P) R.number_of AllPass rows)
         (HasLegal R.table) S.Store conn.old conn.new result }
 {
-    let mut kept = Vec::new(alloc);
+    let mut rows = Vec::new(alloc);
     let mut after = None;
     'batches: for _batch in 0..u64::MAX {
         let batch = next_rows::<R, S>(conn, alloc, memory, after)?;
         match last_of(batch.as_slice()) {
             Some(last) => after = Some(last),
-            None => return Rows::new(kept),
+            None => return Rows::new(rows),
         }
-        keep_batch::<R, F>(&mut kept, batch)?;
+        add_batch(&mut rows, batch)?;
     }
-    Rows::new(kept)
+    Rows::new(rows)
 }
 
 /// Reads the batch of kept requests after this row. Faults 90, 91, 93.

@@ -3,25 +3,27 @@
 ghost use Rattle.terms.specs.Limits.{InLimits};
 ghost use Rattle.store.specs.Lists.{AreRows, AllPass, AreRuleRows, AreClosedDayRows, AreKeptRows};
 ghost use Rattle.store.specs.Lists.{AreRegisters, AreHoldings, AreDealings, AreTables};
-ghost use Rattle.store.specs.Lists.{AreAuditTables};
+ghost use Rattle.store.specs.Lists.{AreAuditTables, AreBarcodeRows, AreLabels};
 ghost use Rattle.store.specs.Reads.{Looked, IsReadable};
 ghost use Rattle.store.specs.Legal.{HasLegal, HasLegalRegisters, HasLegalHoldings};
-ghost use Rattle.store.specs.Legal.{HasLegalDealings, HasLegalTables, Reviews, AnswersLegal};
+ghost use Rattle.store.specs.Legal.{HasLegalDealings, HasLegalLabels, HasLegalTables, Reviews};
+ghost use Rattle.store.specs.Legal.{AnswersLegal};
+ghost use Rattle.circ_tables.specs.Barcodes.{barcodes};
 ghost use Rattle.circ_tables.specs.Branches.{branches};
 ghost use Rattle.circ_tables.specs.ClosedDays.{closed_days};
 ghost use Rattle.circ_tables.specs.Kept.{kept};
 ghost use Rattle.circ_tables.specs.Kinds.{kinds};
 ghost use Rattle.circ_tables.specs.Rules.{rules};
 
-use crate::batches::{EachRow, NoRow, OpenLoans, Sift, pass_over_kept, read_batches};
+use crate::batches::{pass_over_kept, read_batches};
 use crate::idle::committed_is_held;
 use crate::store::Store;
-use circ_tables::{all_closed_days, all_kept, all_rules, every_row, get_meta};
+use circ_tables::{all_barcodes, all_closed_days, all_kept, all_rules, every_row, get_meta};
 use sqlite::{Alter, Connection};
 use std::alloc::Global;
 use terms::{
-    BranchRow, ClosedDayRow, CopyRow, Fault, HoldRow, KeptRow, KindRow, LineRow, LoanRow, MetaRow,
-    PatronRow, Rows, RuleRow, Tables, TitleRow, TransitRow,
+    BarcodeRow, BranchRow, ClosedDayRow, CopyRow, Fault, HoldRow, KeptRow, KindRow, LineRow,
+    LoanRow, MetaRow, NoteRow, PatronRow, Rows, RuleRow, Tables, TitleRow, TransitRow,
 };
 
 /// The tables that the desk sets.
@@ -49,6 +51,13 @@ struct Dealings {
     holds: Rows<HoldRow>,
     transits: Rows<TransitRow>,
     lines: Rows<LineRow>,
+}
+
+/// Barcodes, and the notes of lines.
+#[derive(Drop)]
+struct Labels {
+    barcodes: Rows<BarcodeRow>,
+    notes: Rows<NoteRow>,
 }
 
 /// Reads all rows of `branches`. Faults 90, 91, 93.
@@ -99,6 +108,15 @@ fn kept<S: Alter>(conn: &mut Connection<S>, alloc: Global) -> Result<Rows<KeptRo
     Rows::new(found)
 }
 
+/// Reads all rows of `barcodes`. Faults 90, 91, 93.
+fn barcodes<S: Alter>(conn: &mut Connection<S>, alloc: Global) -> Result<Rows<BarcodeRow>, Fault>
+    ensures { Reviews (λ P rows. AreBarcodeRows P rows) (HasLegal barcodes)
+        S.Store conn.old conn.new result }
+{
+    let found = all_barcodes(conn, alloc)?;
+    Rows::new(found)
+}
+
 /// Reads the tables that the desk sets. Faults 90, 91, 93.
 fn read_registers<S: Alter>(conn: &mut Connection<S>, alloc: Global) -> Result<Registers, Fault>
     ensures { Reviews AreRegisters HasLegalRegisters S.Store conn.old conn.new result }
@@ -117,16 +135,13 @@ fn read_registers<S: Alter>(conn: &mut Connection<S>, alloc: Global) -> Result<R
     })
 }
 
-/// Reads patrons and copies, and the titles that pass the filter. Faults 90, 91, 93.
-fn read_holdings<T: Sift<TitleRow>, S: Alter>(
-    conn: &mut Connection<S>,
-    alloc: Global,
-) -> Result<Holdings, Fault>
-    ensures { Reviews (AreHoldings T.test) HasLegalHoldings S.Store conn.old conn.new result }
+/// Reads patrons, titles and copies. Faults 90, 91, 93.
+fn read_holdings<S: Alter>(conn: &mut Connection<S>, alloc: Global) -> Result<Holdings, Fault>
+    ensures { Reviews AreHoldings HasLegalHoldings S.Store conn.old conn.new result }
 {
-    let patrons = read_batches::<PatronRow, EachRow, S>(conn, alloc, alloc)?;
-    let titles = read_batches::<TitleRow, T, S>(conn, alloc, alloc)?;
-    let copies = read_batches::<CopyRow, EachRow, S>(conn, alloc, ())?;
+    let patrons = read_batches::<PatronRow, S>(conn, alloc, alloc)?;
+    let titles = read_batches::<TitleRow, S>(conn, alloc, alloc)?;
+    let copies = read_batches::<CopyRow, S>(conn, alloc, ())?;
     Ok(Holdings {
         patrons,
         titles,
@@ -134,17 +149,14 @@ fn read_holdings<T: Sift<TitleRow>, S: Alter>(
     })
 }
 
-/// Reads holds, transits and lines, and the loans that pass the filter. Faults 90, 91, 93.
-fn read_dealings<L: Sift<LoanRow>, S: Alter>(
-    conn: &mut Connection<S>,
-    alloc: Global,
-) -> Result<Dealings, Fault>
-    ensures { Reviews (AreDealings L.test) HasLegalDealings S.Store conn.old conn.new result }
+/// Reads loans, holds, transits and lines. Faults 90, 91, 93.
+fn read_dealings<S: Alter>(conn: &mut Connection<S>, alloc: Global) -> Result<Dealings, Fault>
+    ensures { Reviews AreDealings HasLegalDealings S.Store conn.old conn.new result }
 {
-    let loans = read_batches::<LoanRow, L, S>(conn, alloc, ())?;
-    let holds = read_batches::<HoldRow, EachRow, S>(conn, alloc, ())?;
-    let transits = read_batches::<TransitRow, EachRow, S>(conn, alloc, ())?;
-    let lines = read_batches::<LineRow, EachRow, S>(conn, alloc, ())?;
+    let loans = read_batches::<LoanRow, S>(conn, alloc, ())?;
+    let holds = read_batches::<HoldRow, S>(conn, alloc, ())?;
+    let transits = read_batches::<TransitRow, S>(conn, alloc, ())?;
+    let lines = read_batches::<LineRow, S>(conn, alloc, ())?;
     Ok(Dealings {
         loans,
         holds,
@@ -153,13 +165,23 @@ fn read_dealings<L: Sift<LoanRow>, S: Alter>(
     })
 }
 
+/// Reads barcodes and notes. Faults 90, 91, 93.
+fn read_labels<S: Alter>(conn: &mut Connection<S>, alloc: Global) -> Result<Labels, Fault>
+    ensures { Reviews AreLabels HasLegalLabels S.Store conn.old conn.new result }
+{
+    let barcodes = barcodes(conn, alloc)?;
+    let notes = read_batches::<NoteRow, S>(conn, alloc, alloc)?;
+    Ok(Labels { barcodes, notes })
+}
+
 /// Reads all rows of each table. Faults 90, 91, 93.
 fn all_tables<S: Alter>(conn: &mut Connection<S>, alloc: Global) -> Result<Tables, Fault>
     ensures { Reviews AreTables HasLegalTables S.Store conn.old conn.new result }
 {
     let set = read_registers(conn, alloc)?;
-    let owned = read_holdings::<EachRow, S>(conn, alloc)?;
-    let done = read_dealings::<EachRow, S>(conn, alloc)?;
+    let owned = read_holdings(conn, alloc)?;
+    let done = read_dealings(conn, alloc)?;
+    let labels = read_labels(conn, alloc)?;
     let kept = kept(conn, alloc)?;
     Ok(Tables {
         meta: set.meta,
@@ -175,6 +197,8 @@ fn all_tables<S: Alter>(conn: &mut Connection<S>, alloc: Global) -> Result<Table
         transits: done.transits,
         lines: done.lines,
         kept,
+        barcodes: labels.barcodes,
+        notes: labels.notes,
     })
 }
 
@@ -183,8 +207,9 @@ fn audit_tables<S: Alter>(conn: &mut Connection<S>, alloc: Global) -> Result<Tab
     ensures { Reviews AreAuditTables HasLegalTables S.Store conn.old conn.new result }
 {
     let set = read_registers(conn, alloc)?;
-    let owned = read_holdings::<NoRow, S>(conn, alloc)?;
-    let done = read_dealings::<OpenLoans, S>(conn, alloc)?;
+    let owned = read_holdings(conn, alloc)?;
+    let done = read_dealings(conn, alloc)?;
+    let labels = read_labels(conn, alloc)?;
     pass_over_kept(conn, alloc)?;
     Ok(Tables {
         meta: set.meta,
@@ -200,6 +225,8 @@ fn audit_tables<S: Alter>(conn: &mut Connection<S>, alloc: Global) -> Result<Tab
         transits: done.transits,
         lines: done.lines,
         kept: Rows::empty(alloc),
+        barcodes: labels.barcodes,
+        notes: labels.notes,
     })
 }
 
@@ -213,11 +240,10 @@ impl<S: Alter> Store<S> {
         all_tables(&mut self.conn, alloc)
     }
 
-    /// Reads the rows that the laws of sound tables speak of: all patrons, copies, holds, transits
-    /// and lines, and the open loans. Faults 90, 91, 93.
+    /// Reads the rows that the laws of sound tables speak of: those of all tables but `kept`.
+    /// Faults 90, 91, 93.
     ///
-    /// Also reads the rows of all other tables and ended loans, but doesn't keep them: memory
-    /// doesn't grow with them.
+    /// Also reads the rows of `kept`, but doesn't keep them: memory doesn't grow with them.
     pub fn audit_tables(&mut self, alloc: Global) -> Result<Tables, Fault>
         ensures looked { Looked InLimits AreAuditTables IsReadable
             S.Store self.old self.new result }
@@ -233,6 +259,6 @@ impl<S: Alter> Store<S> {
             IsReadable S.Store self.old self.new result }
     {
         committed_is_held(&self.conn);
-        read_batches::<PatronRow, EachRow, S>(&mut self.conn, alloc, alloc)
+        read_batches::<PatronRow, S>(&mut self.conn, alloc, alloc)
     }
 }

@@ -13,8 +13,9 @@ ghost use Rattle.store.specs.Schemas.{IsKnown};
 use crate::batches::last_of;
 use crate::idle::committed_is_held;
 use circ_tables::{
-    Numbered, Table, get_meta_inside, make_second, make_third, next_rows_inside, put_meta, put_row,
-    put_rule, rules_inside, schema_inside, schema_of, take_old_rule, take_row,
+    Numbered, Table, get_meta_inside, make_absent_indexes, make_fourth, make_second, make_third,
+    next_rows_inside, put_meta, put_row, put_rule, rules_inside, schema_inside, schema_of,
+    take_old_rule, take_row,
 };
 use sqlite::{Alter, Connection, Transaction};
 use std::alloc::Global;
@@ -196,6 +197,17 @@ fn migrate_to_3<S: Alter>(tx: &mut Transaction<'_, S>, alloc: Global) -> Result<
     name_schema(tx, 3)
 }
 
+/// Migrates tables from schema 3 to 4, which has barcodes and notes. Adds the last indexes of schema
+/// 3 where an earlier program left them out. Faults 91, 93.
+fn migrate_to_4<S: Alter>(tx: &mut Transaction<'_, S>) -> Result<u32, Fault>
+    ensures migrates { MigratesFrom 3 S.Store tx.old tx.new result }
+    ensures told { IfOk result (λ told. told ≡ 4) }
+{
+    make_absent_indexes(tx)?;
+    make_fourth(tx)?;
+    name_schema(tx, 4)
+}
+
 /// Makes the next step from the tables' schema and returns the resulting one; leaves the newest as
 /// it is. Faults 90, 91; 93 also for an unknown schema.
 fn migrate_on<S: Alter>(tx: &mut Transaction<'_, S>, alloc: Global) -> Result<u32, Fault>
@@ -204,6 +216,7 @@ fn migrate_on<S: Alter>(tx: &mut Transaction<'_, S>, alloc: Global) -> Result<u3
     match schema_inside(tx)? {
         1 => migrate_to_2(tx, alloc),
         2 => migrate_to_3(tx, alloc),
+        3 => migrate_to_4(tx),
         SCHEMA => Ok(SCHEMA),
         _ => Err(Fault::Stored),
     }

@@ -59,7 +59,7 @@ fn is_known(schema: u32) -> bool
 }
 
 impl<S: Alter + Drop> Store<S> {
-    /// Creates the sixteen tables of a new library in one transaction: all empty, except the first
+    /// Creates the eighteen tables of a new library in one transaction: all empty, except the first
     /// row of `meta`. Fault 91, also if a name is taken or a transaction is under way.
     pub fn create(mut conn: Connection<S>) -> Result<Store<S>, Fault>
         ensures created { IfOk result (CreatesLibrary S.Store conn) }
@@ -127,7 +127,9 @@ impl<S: Alter> Store<S> {
         ensures { Migrates S.Store self.old self.new result }
     {
         committed_is_held(&self.conn);
-        if migrating::step(&mut self.conn, alloc)? < SCHEMA {
+        if migrating::step(&mut self.conn, alloc)? < SCHEMA
+            && migrating::step(&mut self.conn, alloc)? < SCHEMA
+        {
             migrating::step(&mut self.conn, alloc)?;
         }
         Ok(())

@@ -1,7 +1,7 @@
 //! The rows that a command needs.
 
 ghost use Rattle.calendar.specs.declared.limits.TheConstants.{MOST_CLOSED_DAYS};
-ghost use Rattle.std.specs.Prelude.{◌≡◌, ◌≢◌, ◌≤◌, ℕ, Bool, false, List, Err, length, IfOk, IfSome};
+ghost use Rattle.std.specs.Prelude.{◌≡◌, ◌≢◌, ◌≤◌, ℕ, false, List, Err, length, IfOk, IfSome};
 ghost use Rattle.std.specs.Prelude.{None, option_and_then};
 ghost use Rattle.calendar.specs.Openings.{AreWeekdays, has_day, has_repeat};
 ghost use Rattle.circ_core.specs.Views.{IsCalendarOf, IsLenderOf, IsFirstFor, AreHoldsFor};
@@ -9,19 +9,23 @@ ghost use Rattle.circ_core.specs.Views.{IsPatronView, IsAcquireView, IsCopyView,
 ghost use Rattle.circ_core.specs.Views.{IsClosedDayView, IsAccountView, IsRenewView};
 ghost use Rattle.circ_core.specs.Views.{IsPlaceHoldView, IsCancelHoldView, IsBranchView};
 ghost use Rattle.circ_core.specs.Views.{IsPickupView, IsCheckInView, IsUnshelveView, IsRehomeView};
+ghost use Rattle.circ_core.specs.Views.{IsCounterView, IsCopyBarcodeView, IsPatronBarcodeView};
 ghost use Rattle.circ_core.specs.Views.{IsMissingView, IsViewOf, HasOnly, rule_in, kind_in};
 ghost use Rattle.circ_core.specs.Views.{borrower_in, named_copy_in, coming_in, IsCount, IsOpenBy};
 ghost use Rattle.circ_core.specs.Views.{IsActiveOn, IsActiveBy, IsLoanOfTitle, copy_in};
 ghost use Rattle.circ_tables.specs.Reading.{IsSoundIn, Views};
 ghost use Rattle.terms.specs.Limits.{InLimits};
-ghost use Rattle.terms.specs.declared.command.Command.TheVariants.{BeginDay, Week, CloseDay, Rule};
-ghost use Rattle.terms.specs.declared.command.Command.TheVariants.{Grace};
-ghost use Rattle.terms.specs.declared.command.Command.TheVariants.{Patron, Acquire, CheckOut};
+ghost use Rattle.terms.specs.declared.command.Command.TheVariants.{CloseDay, Patron, Acquire};
+ghost use Rattle.terms.specs.declared.command.Command.TheVariants.{CheckOut, CopyBarcode};
 ghost use Rattle.terms.specs.declared.command.Command.TheVariants.{CheckIn, Renew, PlaceHold};
 ghost use Rattle.terms.specs.declared.command.Command.TheVariants.{CancelHold, Unshelve, Missing};
-ghost use Rattle.terms.specs.declared.command.Command.TheVariants.{Withdraw, Pay, Page};
-ghost use Rattle.terms.specs.declared.command.Command.TheVariants.{AmendTitle, AmendCopy, Rehome};
+ghost use Rattle.terms.specs.declared.command.Command.TheVariants.{Withdraw, Pay, PayAt, Rehome};
+ghost use Rattle.terms.specs.declared.command.Command.TheVariants.{PatronBarcode};
 
+use crate::one_row::{
+    branch_row_view, copy_row_view, kind_view, labelled, labelled_view, meta_view, page_view,
+    rule_view, title_view,
+};
 use calendar::{Calendar, CloseError, Day, Weekdays};
 use circ_core::View;
 use circ_tables::{
@@ -31,9 +35,8 @@ use circ_tables::{
 use sqlite::{Alter, Connection};
 use std::alloc::Global;
 use terms::{
-    BranchId, BranchRow, Command, CopyId, CopyKind, CopyRow, Count, Fault, HoldId, HoldRow,
-    KindRow, LoanId, LoanRow, PatronId, PatronKind, PatronRow, RuleRow, TitleId, TitleRow,
-    TransitRow,
+    Barcode, BranchId, BranchRow, Command, CopyId, CopyRow, Count, Fault, HoldId, HoldRow, KindRow,
+    LoanId, LoanRow, PatronId, PatronKind, PatronRow, RuleRow, TitleId, TitleRow, TransitRow,
 };
 
 /// Makes a calendar with these closed weekdays and single closed days. Fault 90; 93 if a day occurs
@@ -642,110 +645,6 @@ fn missing_view<S: Alter>(
     })
 }
 
-/// Reads today and the next numbers.
-fn meta_view<S: Alter>(conn: &mut Connection<S>) -> Result<View, Fault>
-    ensures view { Views (λ P rows. rows.meta ≡ P.meta) S.Store conn.old conn.new result }
-    ensures only { (day : ℕ) → IfOk result (HasOnly (BeginDay day)) }
-{
-    let meta = get_meta(conn)?;
-    Ok(View {
-        meta,
-        ..View::empty()
-    })
-}
-
-/// Reads only a branch.
-fn branch_row_view<S: Alter>(
-    conn: &mut Connection<S>,
-    alloc: Global,
-    number: BranchId,
-) -> Result<View, Fault>
-    ensures view { Views (λ P rows. rows.branch ≡ P.branches number)
-        S.Store conn.old conn.new result }
-    ensures only { (week : List Bool) → IfOk result (HasOnly (Week number week)) }
-{
-    let branch = get_row::<BranchRow, S>(conn, alloc, number)?;
-    Ok(View {
-        branch,
-        ..View::empty()
-    })
-}
-
-/// Reads only a kind of patron.
-fn kind_view<S: Alter>(conn: &mut Connection<S>, number: PatronKind) -> Result<View, Fault>
-    ensures view { Views (λ P rows. rows.kind ≡ P.kinds number) S.Store conn.old conn.new result }
-    ensures only { (copy_kind period renewals rate cap : ℕ)
-        → IfOk result (HasOnly (Rule number copy_kind period renewals rate cap)) }
-{
-    let kind = get_row::<KindRow, S>(conn, (), number)?;
-    Ok(View {
-        kind,
-        ..View::empty()
-    })
-}
-
-/// Reads only the circulation rule of a kind of patron and a kind of copy.
-fn rule_view<S: Alter>(
-    conn: &mut Connection<S>,
-    kind: PatronKind,
-    copy_kind: CopyKind,
-) -> Result<View, Fault>
-    ensures view { Views (λ P rows. rows.rule ≡ P.rules kind copy_kind)
-        S.Store conn.old conn.new result }
-    ensures only { (days : ℕ) → IfOk result (HasOnly (Grace kind copy_kind days)) }
-{
-    let rule = get_rule(conn, kind, copy_kind)?;
-    Ok(View {
-        rule,
-        ..View::empty()
-    })
-}
-
-/// Reads only a patron.
-fn page_view<S: Alter>(
-    conn: &mut Connection<S>,
-    alloc: Global,
-    number: PatronId,
-) -> Result<View, Fault>
-    ensures view { Views (λ P rows. rows.patron ≡ P.patrons number)
-        S.Store conn.old conn.new result }
-    ensures only { IfOk result (HasOnly (Page number)) }
-{
-    let patron = get_row::<PatronRow, S>(conn, alloc, number)?;
-    Ok(View {
-        patron,
-        ..View::empty()
-    })
-}
-
-/// Reads only a title.
-fn title_view<S: Alter>(
-    conn: &mut Connection<S>,
-    alloc: Global,
-    number: TitleId,
-) -> Result<View, Fault>
-    ensures view { Views (λ P rows. rows.title ≡ P.titles number) S.Store conn.old conn.new result }
-    ensures only { (text : List ℕ) → IfOk result (HasOnly (AmendTitle number text)) }
-{
-    let title = get_row::<TitleRow, S>(conn, alloc, number)?;
-    Ok(View {
-        title,
-        ..View::empty()
-    })
-}
-
-/// Reads only a copy.
-fn copy_row_view<S: Alter>(conn: &mut Connection<S>, number: CopyId) -> Result<View, Fault>
-    ensures view { Views (λ P rows. rows.copy ≡ P.copies number) S.Store conn.old conn.new result }
-    ensures only { (kind price : ℕ) → IfOk result (HasOnly (AmendCopy number kind price)) }
-{
-    let copy = get_row::<CopyRow, S>(conn, (), number)?;
-    Ok(View {
-        copy,
-        ..View::empty()
-    })
-}
-
 /// Reads a branch, a copy, and the rows that claim the copy.
 fn rehome_view<S: Alter>(
     conn: &mut Connection<S>,
@@ -760,6 +659,68 @@ fn rehome_view<S: Alter>(
     let branch = get_row::<BranchRow, S>(conn, alloc, home)?;
     let at = copy_view(conn, number)?;
     Ok(View { branch, ..at })
+}
+
+/// Reads a patron, a branch and the next numbers.
+fn counter_view<S: Alter>(
+    conn: &mut Connection<S>,
+    alloc: Global,
+    number: PatronId,
+    at: BranchId,
+) -> Result<View, Fault>
+    ensures view { Views (λ P rows. IsCounterView P number at rows)
+        S.Store conn.old conn.new result }
+    ensures only { (amount : ℕ) → IfOk result (HasOnly (PayAt number amount at)) }
+{
+    let meta = get_meta(conn)?;
+    let patron = get_row::<PatronRow, S>(conn, alloc, number)?;
+    let branch = get_row::<BranchRow, S>(conn, alloc, at)?;
+    Ok(View {
+        meta,
+        patron,
+        branch,
+        ..View::empty()
+    })
+}
+
+/// Reads a copy, and what has the barcode.
+fn copy_barcode_view<S: Alter>(
+    conn: &mut Connection<S>,
+    alloc: Global,
+    number: CopyId,
+    barcode: &Barcode,
+) -> Result<View, Fault>
+    ensures view { Views (λ P rows. IsCopyBarcodeView P number barcode.now rows)
+        S.Store conn.old conn.new result }
+    ensures only { IfOk result (HasOnly (CopyBarcode number barcode.now)) }
+{
+    let copy = get_row::<CopyRow, S>(conn, (), number)?;
+    let labelled = labelled(conn, alloc, barcode)?;
+    Ok(View {
+        copy,
+        labelled,
+        ..View::empty()
+    })
+}
+
+/// Reads a patron, and what has the barcode.
+fn patron_barcode_view<S: Alter>(
+    conn: &mut Connection<S>,
+    alloc: Global,
+    number: PatronId,
+    barcode: &Barcode,
+) -> Result<View, Fault>
+    ensures view { Views (λ P rows. IsPatronBarcodeView P number barcode.now rows)
+        S.Store conn.old conn.new result }
+    ensures only { IfOk result (HasOnly (PatronBarcode number barcode.now)) }
+{
+    let patron = get_row::<PatronRow, S>(conn, alloc, number)?;
+    let labelled = labelled(conn, alloc, barcode)?;
+    Ok(View {
+        patron,
+        labelled,
+        ..View::empty()
+    })
 }
 
 /// Reads exactly the rows that the command needs.
@@ -797,6 +758,11 @@ pub(crate) fn view_for<S: Alter>(
         Command::AmendTitle { title, .. } => title_view(conn, alloc, *title),
         Command::AmendCopy { copy, .. } => copy_row_view(conn, *copy),
         Command::Rehome { copy, branch } => rehome_view(conn, alloc, *copy, *branch),
+        Command::CopyBarcode { copy, barcode } => copy_barcode_view(conn, alloc, *copy, barcode),
+        Command::PatronBarcode { patron, barcode } => {
+            patron_barcode_view(conn, alloc, *patron, barcode)
+        }
+        Command::DropBarcode { barcode } => labelled_view(conn, alloc, barcode),
         Command::CheckOut {
             patron,
             copy,
@@ -817,6 +783,8 @@ pub(crate) fn view_for<S: Alter>(
         Command::Withdraw { copy } => copy_view(conn, *copy),
         Command::Pay { patron, .. } => account_view(conn, alloc, *patron),
         Command::Waive { patron, .. } => account_view(conn, alloc, *patron),
+        Command::Charge { patron, branch, .. } => counter_view(conn, alloc, *patron, *branch),
+        Command::PayAt { patron, branch, .. } => counter_view(conn, alloc, *patron, *branch),
         Command::Page { patron } => page_view(conn, alloc, *patron),
         Command::Ask(_) => Ok(View::empty()),
     }

@@ -13,8 +13,8 @@ batches-init g c = record {
   seen = record {
     view = record {
       read = read_none _;
-      shown = λ clean P shown legal. none_so_far (g.R.Table.table.rows P) g.R.Numbered.number_of g.F.Sift.test 0 c.new-kept.result.items
-          refl c.new-kept.ensures.items;
+      shown = λ clean P shown legal. none_so_far (g.R.Table.table.rows P) g.R.Numbered.number_of 0 c.new-rows.result.items
+          refl c.new-rows.ensures.items;
     };
     met = λ clean maps holds. none_met g.R.Table.table maps;
   };
@@ -29,23 +29,22 @@ pub returns-in-None : goal.returns-in-None
 returns-in-None g c =
     let rows = g.R.Table.table.rows in
     let number_of = g.R.Numbered.number_of in
-    let test = g.F.Sift.test in
     let batch = c.in_ok-batch.batch.items in
     let none : None ≡ option_map number_of (slice_get batch (length batch - 1)) = rw (c.as_slice.ensures.value) at c.in-None.ensures in
     let empty = empty_if number_of batch (sym none) in
-    rows_taken g.R.Ordered.comes_before c.batches.kept.items c.new.result c.new.ensures.ok c.new.ensures.err
+    rows_taken g.R.Ordered.comes_before c.batches.rows.items c.new.result c.new.ensures.ok c.new.ensures.err
     (c.batches.invariant.seen ⨟ batch_met g.met.R.Numbered.sound c.batches.after c.in_ok-batch.ensures)
     (λ P all.
-    let are = all_so_far (rows P) number_of test (unwrap_or c.batches.after 0) c.batches._batch c.batches.kept.items all.0 batch all.1.1 all.1.0 empty in
-    (are, ordered-as (λ r s. number_of r < number_of s) g.R.Ordered.comes_before g.met.R.Numbered.by_number c.batches.kept.items are.rise))
+    let are = all_so_far (rows P) number_of (unwrap_or c.batches.after 0) c.batches._batch c.batches.rows.items all.0 batch all.1.1 all.1.0 empty in
+    (are, ordered-as (λ r s. number_of r < number_of s) g.R.Ordered.comes_before g.met.R.Numbered.by_number c.batches.rows.items are.rise))
     (λ maps all. all_met g.met.R.Numbered.sound maps c.batches.after c.batches._batch all.0 batch all.1 empty)
 
-pub returns-in_err-keep_batch : goal.returns-in_err-keep_batch
-returns-in_err-keep_batch g c =
-    faults _ _ c.from_residual-in_err-keep_batch.ensures
-    (stops c.in_err-keep_batch.field-0.0
+pub returns-in_err-add_batch : goal.returns-in_err-add_batch
+returns-in_err-add_batch g c =
+    faults _ _ c.from_residual-in_err-add_batch.ensures
+    (stops c.in_err-add_batch.field-0.0
     (c.batches.invariant.seen.view ⨾ batch_seen g.met.R.Numbered.sound c.batches.after c.in_ok-batch.ensures) (λ is clean P shown legal few.
-    let memory = c.in_err-keep_batch.ensures.fault in
+    let memory = c.in_err-add_batch.ensures.fault in
     let never : ⊥ = cc in
     never))
 
@@ -56,9 +55,9 @@ batches-preserved g c =
     let end : Some c.in-Some.last ≡ option_map number_of (slice_get batch (length batch - 1)) = rw (c.as_slice.ensures.value) at c.in-Some.ensures in
     record {
       seen = tells (c.batches.invariant.seen ⨟ batch_met g.met.R.Numbered.sound c.batches.after c.in_ok-batch.ensures)
-          (λ P all. next_so_far (g.R.Table.table.rows P) number_of g.F.Sift.test
-          (unwrap_or c.batches.after 0) c.batches._batch c.batches.kept.items all.0 batch all.1.1 c.in-Some.last
-          (sym end) c.keep_batch.new.kept.items c.in_ok-keep_batch.ensures.kept)
+          (λ P all. next_so_far (g.R.Table.table.rows P) number_of
+          (unwrap_or c.batches.after 0) c.batches._batch c.batches.rows.items all.0 batch all.1.1 c.in-Some.last
+          (sym end) c.add_batch.new.rows.items c.in_ok-add_batch.ensures.rows)
           (λ maps all. next_met g.met.R.Numbered.sound maps c.batches.after c.batches._batch all.0 batch all.1 c.in-Some.last (sym end));
       low = search;
     }
@@ -67,6 +66,6 @@ pub returns : goal.returns
 returns g c =
     let low : unwrap_or c.batches.after 0 < 2 ^ 32 = c.batches.invariant.low in
     let past = c.batches-test.false in
-    rows_taken g.R.Ordered.comes_before c.batches.kept.items c.new-2.result c.new-2.ensures.ok c.new-2.ensures.err c.batches.invariant.seen
+    rows_taken g.R.Ordered.comes_before c.batches.rows.items c.new-2.result c.new-2.ensures.ok c.new-2.ensures.err c.batches.invariant.seen
     (λ P so_far. let few : c.batches._batch ≤ unwrap_or c.batches.after 0 = so_far.few in absurd (omega (arith, few, low, past)))
     (λ maps so_far. let few : c.batches._batch ≤ unwrap_or c.batches.after 0 = so_far.few in absurd (omega (arith, few, low, past)))

@@ -7,7 +7,7 @@ use Rattle.store.proofs.batches.read_batches.Given as goal
 
 abbrev pub invariant-batches : goal.invariant-batches
 invariant-batches g l = record {
-  seen : Reviews {A = Unit {0}} (λ P _. AreSoFar (g.R.Table.table.rows P) g.R.Numbered.number_of g.F.Sift.test
-      (unwrap_or l.after 0) l._batch l.kept.items) (AreMetSoFar g.R.Table.table l.after l._batch) g.S.Store l.fn.conn l.conn (Ok tt);
+  seen : Reviews {A = Unit {0}} (λ P _. AreSoFar (g.R.Table.table.rows P) g.R.Numbered.number_of
+      (unwrap_or l.after 0) l._batch l.rows.items) (AreMetSoFar g.R.Table.table l.after l._batch) g.S.Store l.fn.conn l.conn (Ok tt);
   low : unwrap_or l.after 0 < 2 ^ 32;
 }

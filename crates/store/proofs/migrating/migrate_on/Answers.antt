@@ -12,7 +12,10 @@ pub returns-in-2 : goal.returns-in-2
 returns-in-2 g c = older_led g.S.Store 2 (rw c.in-2.is at c.in_ok-schema_inside.ensures) (omega arith, omega arith) _ (search rules) (search rules)
 
 pub returns-in-3 : goal.returns-in-3
-returns-in-3 g c = newest_stays g.S.Store c.in_ok-schema_inside.field-0 c.in_ok-schema_inside.ensures c.in-3.is 3 refl
+returns-in-3 g c = older_led g.S.Store 3 (rw c.in-3.is at c.in_ok-schema_inside.ensures) (omega arith, omega arith) _ (search rules) (search rules)
+
+pub returns-in-4 : goal.returns-in-4
+returns-in-4 g c = newest_stays g.S.Store c.in_ok-schema_inside.field-0 c.in_ok-schema_inside.ensures c.in-4.is 4 refl
 
 pub returns-in_default : goal.returns-in_default
 returns-in_default g c =

@@ -22,25 +22,25 @@ pub returns-in_err-carry_rules-clause-migrates : goal.returns-in_err-carry_rules
 returns-in_err-carry_rules-clause-migrates g c =
     migrates_failed g.S.Store _ c.from_residual-in_err-carry_rules.ensures (λ P ready. ready)
     (migrates_then g.S.Store RulesMoved IsReady (all_over rules1 rules_transfer) made_rules
-    (λ P ready. (ready, (ready.1, λ k. ready.0.later_rules k.0 k.1))) (λ P. refl)
+    (λ P ready. (ready, (ready.1, λ k. ready.0.later_rules k.0 k.1))) (λ P ready. refl)
     (made_migrates g.S.Store _ 2 3 14 refl IsReady encoded_2 c.in_ok-make_third.ensures) c.in_err-carry_rules.ensures)
 
 pub returns-in_err-carry_all-clause-migrates : goal.returns-in_err-carry_all-clause-migrates
 returns-in_err-carry_all-clause-migrates g c =
     migrates_failed g.S.Store _ c.from_residual-in_err-carry_all.ensures (λ P ready. ready)
     (migrates_then g.S.Store LoansMoved IsReady (λ P. all_over loans1 loans_transfer (all_over rules1 rules_transfer P)) made_loans
-    (λ P ready. (ready, (all_over_limits rules_carried P ready.1 (own_rules P ready.1), ready.0.later_loans))) (λ P. refl)
+    (λ P ready. (ready, (all_over_limits rules_carried P ready.1 (own_rules P ready.1), ready.0.later_loans))) (λ P ready. refl)
     (migrates_then g.S.Store RulesMoved IsReady (all_over rules1 rules_transfer) made_rules
-    (λ P ready. (ready, (ready.1, λ k. ready.0.later_rules k.0 k.1))) (λ P. refl)
+    (λ P ready. (ready, (ready.1, λ k. ready.0.later_rules k.0 k.1))) (λ P ready. refl)
     (made_migrates g.S.Store _ 2 3 14 refl IsReady encoded_2 c.in_ok-make_third.ensures) c.in_ok-carry_rules.ensures) c.in_err-carry_all.ensures)
 
 pub returns-clause-migrates : goal.returns-clause-migrates
 returns-clause-migrates g c =
-    migrates_then g.S.Store (AreLedIfNamed 2) IsReady led_to_3 led_to_third (λ P ready. (ready, ready.1.meta)) (λ P. refl)
+    migrates_then g.S.Store (AreLedIfNamed 2) IsReady led_to_3 led_to_third (λ P ready. (ready, ready.1.meta)) (λ P ready. refl)
     (migrates_then g.S.Store LoansMoved IsReady (λ P. all_over loans1 loans_transfer (all_over rules1 rules_transfer P)) made_loans
-    (λ P ready. (ready, (all_over_limits rules_carried P ready.1 (own_rules P ready.1), ready.0.later_loans))) (λ P. refl)
+    (λ P ready. (ready, (all_over_limits rules_carried P ready.1 (own_rules P ready.1), ready.0.later_loans))) (λ P ready. refl)
     (migrates_then g.S.Store RulesMoved IsReady (all_over rules1 rules_transfer) made_rules
-    (λ P ready. (ready, (ready.1, λ k. ready.0.later_rules k.0 k.1))) (λ P. refl)
+    (λ P ready. (ready, (ready.1, λ k. ready.0.later_rules k.0 k.1))) (λ P ready. refl)
     (made_migrates g.S.Store _ 2 3 14 refl IsReady encoded_2 c.in_ok-make_third.ensures) c.in_ok-carry_rules.ensures) c.in_ok-carry_all.ensures)
     c.name_schema.ensures.named
 

@@ -54,3 +54,12 @@ returns-in-Pay-clause-only g c = rw c.in-Pay.is (c.account_view.ensures.only 0)
 
 pub returns-in-Waive-clause-only : goal.returns-in-Waive-clause-only
 returns-in-Waive-clause-only g c = rw c.in-Waive.is (c.account_view-in-Waive.ensures.only 0)
+
+pub returns-in-DropBarcode-clause-view : goal.returns-in-DropBarcode-clause-view
+returns-in-DropBarcode-clause-view g c = rw c.in-DropBarcode.is c.labelled_view.ensures.view
+
+pub returns-in-Charge-clause-only : goal.returns-in-Charge-clause-only
+returns-in-Charge-clause-only g c = rw c.in-Charge.is (c.counter_view.ensures.only 0)
+
+pub returns-in-PayAt-clause-only : goal.returns-in-PayAt-clause-only
+returns-in-PayAt-clause-only g c = rw c.in-PayAt.is (c.counter_view-in-PayAt.ensures.only 0)
