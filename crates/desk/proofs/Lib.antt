@@ -48,3 +48,4 @@ pub mod FoundRows
 pub mod SettingRows
 pub mod Queues
 pub mod RowsTold
+pub mod Labellings

@@ -1,13 +1,13 @@
 -- Account lines and their rows.
 use Rattle.std.proofs.Common.{◌≡◌, ℕ, zero, List, [], ◌∷◌, refl}
-use Rattle.std.specs.Prelude.{None}
+use Rattle.std.specs.Prelude.{Option, None}
 use Rattle.terms.specs.declared.row.LineRow.{LineRow}
-use Rattle.model.specs.Accounts.{Line}
+use Rattle.model.specs.Accounts.{Line, Note}
 use Rattle.model.specs.Picture.{nth_line}
 
--- The line that a row is of.
-abbrev pub line_in : LineRow → Line
-line_in r = record { patron = r.patron; day = r.day; sort = r.sort; amount = r.amount; loan = r.loan }
+-- The line that a row is of, with the note of its number.
+abbrev pub line_in : (ℕ → Option Note) → LineRow → Line
+line_in notes r = record { patron = r.patron; day = r.day; sort = r.sort; amount = r.amount; loan = r.loan; note = notes r.line }
 
 -- The row of a line.
 abbrev pub row_at : ℕ → Line → LineRow

@@ -10,19 +10,21 @@ use Rattle.terms.specs.declared.row.LineRow.{LineRow}
 use Rattle.terms.specs.declared.row.LoanRow.{LoanRow}
 use Rattle.terms.specs.declared.row.TitleRow.{TitleRow}
 use Rattle.terms.specs.declared.row.TransitRow.{TransitRow}
-use Rattle.model.specs.Accounts.{Line, lines, nth_line}
-use Rattle.model.specs.Asking.{transits_list, queue_list, account_list, pulls_list, travels_for, for_words, from_words, sort_word, loan_words}
+use Rattle.model.specs.Accounts.{Line, Note, lines, nth_line}
+use Rattle.model.specs.Asking.{transits_list, queue_list, account_list, pulls_list, travels_for, for_words, from_words, sort_word, loan_words, note_words}
 use Rattle.model.specs.Asking.{account_line, pulled_for}
 use Rattle.model.specs.History.{History, CopyFacts, copy_of, HoldFacts, hold_of}
 use Rattle.model.specs.Loans.{LoanFacts, loan_of, title_of_loan}
 use Rattle.model.specs.Pages.{spaced, title_text}
 use Rattle.model.specs.Picture.{picture, copy_columns, loan_columns, hold_columns, line_columns}
 use Rattle.model.specs.Places.{place, state, title_of_copy, title_of_hold, patron_of_hold, goal_of, first_day_of}
-use Rattle.desk.specs.Asking.{queue_words, line_words, charge_words, pull_words, IsTitleOfLoan}
+use Rattle.desk.specs.Asking.{queue_words, account_words, charge_words, pull_words, IsTitleOfLoan}
+use Rattle.desk.specs.Labelling.{note_at}
 use Rattle.desk.specs.Paging.{IsTitleOf}
-use Rattle.desk.specs.Placing.{travel_words}
+use Rattle.desk.specs.Placing.{after_space, travel_words}
 use Rattle.desk.proofs.ListNumbers.{transit-place}
 use Rattle.desk.proofs.PageRows.{titled}
+use Rattle.desk.proofs.Placings.{spaced-after}
 use Rattle.desk.proofs.Pulls.{hold-title-is}
 
 module _ (H : History) where
@@ -68,31 +70,29 @@ module _ (H : History) where
       ∙ ap (λ (x : HoldRow). x.first_day) is.4 in
       λ i. spaced (codes "hold" ∷ decimal r.hold ∷ codes "patron" ∷ decimal (sym patron i) ∷ codes "at" ∷ decimal (sym goal i) ∷ from_words (sym first i))
 
-  -- a line of an account
-  line-is : (r : LineRow) → (picture H).lines r.line ≡ Some r → (words : List (List ℕ)) → loan_words H r.loan ≡ words
-      → account_line H r.line ≡ spaced (codes "line" ∷ decimal r.line ∷ day_text r.day ∷ sort_word r.sort ∷ decimal r.amount ∷ words)
-  line-is r there words loan = go (nth_line (lines H) r.line) refl there
+  -- a line of an account: what it is for, and then where it was made
+  pub line-is : (p : ℕ) (r : LineRow) → (picture H).lines r.line ≡ Some r
+      → account_words r (loan_words H r.loan) ++ after_space (note_words (note_at H r.line)) ≡ (account_list H p).row r.line
+  line-is p r there = go (nth_line (lines H) r.line) refl there
     where
       go : (o : Option Line) → nth_line (lines H) r.line ≡ o → option_map (line_columns H r.line) o ≡ Some r
-          → account_line H r.line ≡ spaced (codes "line" ∷ decimal r.line ∷ day_text r.day ∷ sort_word r.sort ∷ decimal r.amount ∷ words)
+          → account_words r (loan_words H r.loan) ++ after_space (note_words (note_at H r.line)) ≡ account_line H r.line
       go (Some x) e q =
           let same : line_columns H r.line x ≡ r = cc in
-          ap (λ (o : Option Line). unwrap_or (option_map (λ y. spaced (codes "line" ∷ decimal r.line ∷ day_text y.day ∷ sort_word y.sort ∷ decimal y.amount
-          ∷ loan_words H y.loan)) o) []) e
+          let noted : note_at H r.line ≡ x.note = ap (option_and_then (λ (y : Line). y.note)) e in
+          sym (ap (λ (o : Option Line). unwrap_or (option_map (λ y. spaced (codes "line" ∷ decimal r.line ∷ day_text y.day ∷ sort_word y.sort
+          ∷ decimal y.amount ∷ loan_words H y.loan ++ note_words y.note)) o) []) e
           ∙ (λ i. spaced (codes "line" ∷ decimal r.line ∷ day_text ((same i).day) ∷ sort_word ((same i).sort) ∷ decimal ((same i).amount)
-          ∷ loan_words H ((same i).loan)))
-          ∙ ap (λ (ws : List (List ℕ)). spaced (codes "line" ∷ decimal r.line ∷ day_text r.day ∷ sort_word r.sort ∷ decimal r.amount ∷ ws)) loan
+          ∷ loan_words H ((same i).loan) ++ note_words x.note))
+          ∙ spaced-after (codes "line") (decimal r.line ∷ day_text r.day ∷ sort_word r.sort ∷ decimal r.amount ∷ loan_words H r.loan) (note_words x.note)
+          ∙ ap (λ (k : Option Note). account_words r (loan_words H r.loan) ++ after_space (note_words k)) (sym noted))
       go None e q = let never : ⊥ = cc in absurd never
 
-  pub payment-text : (p : ℕ) (r : LineRow) → (picture H).lines r.line ≡ Some r → r.loan ≡ None → line_words r ≡ (account_list H p).row r.line
-  payment-text p r there none = sym (line-is r there [] (ap (loan_words H) none))
-
-  pub charge-text : (p l : ℕ) (r : LineRow) (t : TitleRow) → (picture H).lines r.line ≡ Some r → r.loan ≡ Some l → IsTitleOfLoan l H t
-      → charge_words r l t ≡ (account_list H p).row r.line
-  charge-text p l r t there some is =
+  pub charge-text : (l : ℕ) (r : LineRow) (t : TitleRow) → r.loan ≡ Some l → IsTitleOfLoan l H t
+      → charge_words r l t ≡ account_words r (loan_words H r.loan)
+  charge-text l r t some is =
       let w = title-of-loan l t is in
-      sym (line-is r there (codes "loan" ∷ decimal l ∷ codes "title" ∷ decimal t.title ∷ t.text ∷ [])
-      (ap (loan_words H) some ∙ (λ i. codes "loan" ∷ decimal l ∷ codes "title" ∷ decimal (sym w.0 i) ∷ sym w.1 i ∷ [])))
+      ap (account_words r) ((λ i. codes "loan" ∷ decimal l ∷ codes "title" ∷ decimal (w.0 i) ∷ w.1 i ∷ []) ∙ ap (loan_words H) (sym some))
 
   -- a copy that is to be taken from its shelf
   pub pull-text : (b copy : ℕ) (r : HoldRow) (t : TitleRow) → (picture H).holds r.hold ≡ Some r → pulled_for H b r.hold ≡ Some copy

@@ -5,7 +5,7 @@ use Rattle.terms.specs.declared.command.Owner.{Owner}
 use Rattle.terms.specs.declared.command.Command.TheVariants.{Ask}
 use Rattle.terms.specs.declared.question.Question.TheVariants as question
 use Rattle.terms.specs.declared.refusal.Refusal.{Refusal}
-use Rattle.terms.specs.declared.refusal.Refusal.TheVariants.{UnknownBranch, UnknownPatron, UnknownTitle, UnknownCopy, UnknownKind}
+use Rattle.terms.specs.declared.refusal.Refusal.TheVariants.{UnknownBranch, UnknownPatron, UnknownTitle, UnknownCopy, UnknownKind, UnknownBarcode}
 use Rattle.terms.specs.declared.reply.Reply.{Reply}
 use Rattle.terms.specs.declared.reply.Reply.TheVariants.{Shown, Refused}
 use Rattle.terms.specs.declared.row.BranchRow.{BranchRow}
@@ -16,7 +16,7 @@ use Rattle.terms.specs.declared.row.TitleRow.{TitleRow}
 use Rattle.model.specs.Answers.{answer}
 use Rattle.model.specs.Asking.{asked, listed, copies_list, queue_list, account_list, overdue_list, shelf_list, pulls_list, transits_list}
 use Rattle.model.specs.Asking.{closed_days_list, rules_list, loans_list}
-use Rattle.model.specs.History.{History, branch_of, kind_of, copy_of, patron_of, title_of}
+use Rattle.model.specs.History.{History, branch_of, kind_of, copy_of, patron_of, title_of, thing_of}
 use Rattle.model.specs.Pages.{spaced, title_words}
 use Rattle.model.specs.Picture.{picture}
 use Rattle.model.specs.Checks.{first_failing}
@@ -91,6 +91,16 @@ module _ (H : History) (o : Owner) where
   pub borrower-answer : (p : ℕ) → answer H o (Ask (question.Borrower p)) ≡ reply_if (has_patron H p) UnknownPatron (asked H (question.Borrower p))
   unfolding answer-of
   borrower-answer p = answered (has_patron H p) UnknownPatron (asked H (question.Borrower p))
+
+  pub till-at-answer : (b d : ℕ) → answer H o (Ask (question.TillAt b d)) ≡ reply_if (has_branch H b) UnknownBranch (asked H (question.TillAt b d))
+  unfolding answer-of
+  till-at-answer b d = answered (has_branch H b) UnknownBranch (asked H (question.TillAt b d))
+
+  pub barcode-answer : (x : List ℕ)
+      → answer H o (Ask (question.FindBarcode x)) ≡ reply_if (is_some (thing_of H x)) UnknownBarcode (asked H (question.FindBarcode x))
+  unfolding answer-of
+  barcode-answer x = ap (answer-of UnknownBarcode (asked H (question.FindBarcode x))) (none-not-some (thing_of H x))
+      ∙ answered (is_some (thing_of H x)) UnknownBarcode (asked H (question.FindBarcode x))
 
   pub copy-answer : (c : ℕ) → answer H o (Ask (question.Copy c)) ≡ reply_if (has_copy H c) UnknownCopy (asked H (question.Copy c))
   unfolding answer-of

@@ -1,9 +1,11 @@
 -- The lines of a day, batch by batch.
-use Rattle.std.proofs.Common.{◌≡◌, ℕ, suc, ◌≤◌, ◌<◌, ◌+◌, ◌-◌, ◌*◌, ◌^◌, min, true, ◌⊎◌, inl, inr, List, [], ◌∷◌, ◌++◌, length, map, refl}
-use Rattle.std.proofs.Common.{sym, ◌∙◌, ap, subst, arith}
-use Rattle.std.specs.Prelude.{Some, None, codes}
+use Rattle.std.proofs.Common.{◌≡◌, ℕ, suc, ◌≤◌, ◌<◌, ◌+◌, ◌-◌, ◌*◌, ◌^◌, min, Bool, true, false, cond, ◌⊎◌, inl, inr, List, [], ◌∷◌, ◌++◌, length, map, refl}
+use Rattle.std.proofs.Common.{append-nil, take, slice_index_or, sym, ◌∙◌, ap, subst, arith}
+use Rattle.std.specs.Prelude.{Some, None, codes, decimal, filter}
 use Rattle.std.specs.List.{Contains, AllByRecursion}
 use Rattle.std.proofs.lemmas.Bool.{cases_lt}
+use Rattle.std.proofs.lemmas.List.{take_more}
+use Rattle.std.proofs.lemmas.List.Elements.{filter-append}
 use Rattle.circ_tables.specs.declared.by_number.TheConstants.{BATCH_ROWS}
 use Rattle.store.specs.Lists.{AreRows}
 use Rattle.terms.specs.Orders.{Rise}
@@ -13,11 +15,12 @@ use Rattle.terms.specs.declared.limits.TheConstants.{LAST_NUMBER}
 use Rattle.terms.specs.Pictures.{Picture}
 use Rattle.terms.specs.declared.row.LineRow.{LineRow}
 use Rattle.terms.specs.declared.row.Sort.{Sort}
-use Rattle.terms.specs.declared.row.Sort.TheVariants.{Fine, Price, Payment, Waiver}
+use Rattle.terms.specs.declared.row.Sort.TheVariants.{Fine, Price, Payment, Waiver, Charge}
 use Rattle.model.specs.History.{History}
 use Rattle.model.specs.Picture.{picture}
 use Rattle.desk.specs.Parts.{IsLast}
-use Rattle.desk.specs.Reporting.{rows_sum, capped_sum, capped_sums, day_sums, AreLinesOf, AreSumsOf, IsTillText, IsTillReport, till_words}
+use Rattle.desk.specs.Reporting.{rows_sum, capped_sum, capped_sums, day_sums, is_noted, AreLinesOf, AreSumsOf, IsTillText, IsTillTextAt, IsTillReport}
+use Rattle.desk.specs.Reporting.{till_words, till_at_words}
 use Rattle.desk.specs.declared.till.Sums.{Sums}
 use Rattle.std.specs.Prelude.{Result}
 use Rattle.store.specs.Library.{Ghosts, Held}
@@ -25,7 +28,7 @@ use Rattle.terms.specs.declared.fault.Fault.{Fault}
 use Rattle.std.specs.List.{join_with_byte}
 use Rattle.calendar.specs.Days.{day_text}
 use Rattle.model.specs.Pages.{spaced}
-use Rattle.model.specs.Reports.{till, till_rows, till_line, till_sum}
+use Rattle.model.specs.Reports.{till, till_rows, till_at_rows, till_line, till_sum, charges_row}
 use Rattle.model.proofs.RowRanges.{legal-rows}
 use Rattle.desk.specs.Answering.{Learns}
 use Rattle.desk.proofs.Founds.{Found}
@@ -34,7 +37,7 @@ use Rattle.desk.proofs.NumberLists.{last-is}
 use Rattle.desk.proofs.RowLists.{has, contains-has, has-contains}
 use Rattle.desk.proofs.Contained.{in-cases, in-none, above-first}
 use Rattle.desk.proofs.ReportLines.{report-joined}
-use Rattle.desk.proofs.TillLines.{till-sum}
+use Rattle.desk.proofs.TillLines.{till-sum, till-sum-at}
 use Rattle.desk.proofs.TillSums.{sum-append, sum-cons}
 
 -- ---- rows after rows
@@ -164,11 +167,11 @@ module _ (P : Picture) (d after : ℕ) (legal : InLimits P) (done rows : List Li
 
 -- ---- the sums so far
 
--- The sums are those of the lines up to a number, which came in so many batches and no more.
-pub record AreSumsTo (P : Picture) (d after : ℕ) (sums : Sums) (batches : ℕ) : Type 0 where
+-- The sums are those of the lines up to a number that pass a test, which came in so many batches and no more.
+pub record AreSumsTo (P : Picture) (test : LineRow → Bool) (d after : ℕ) (sums : Sums) (batches : ℕ) : Type 0 where
   pub done : List LineRow
   pub lines : AreLinesTo P d after done
-  pub sums_are : sums ≡ capped_sums done
+  pub sums_are : sums ≡ capped_sums (filter test done)
   pub few : batches ≤ after
 
 -- Sums that stay at the largest number, added one after another.
@@ -179,16 +182,57 @@ capped-then s before rows sum is =
     omega (arith, is, all)
 
 -- What the sums of a batch add.
-pub sums-then : (before rows : List LineRow) (sums : Sums) → sums ≡ capped_sums before → (f p q w : ℕ)
+pub sums-then : (before rows : List LineRow) (sums : Sums) → sums ≡ capped_sums before → (f p q w c : ℕ)
     → f ≡ min (sums.fines + rows_sum Fine rows) (2 ^ 128 - 1) → p ≡ min (sums.prices + rows_sum Price rows) (2 ^ 128 - 1)
     → q ≡ min (sums.payments + rows_sum Payment rows) (2 ^ 128 - 1) → w ≡ min (sums.waivers + rows_sum Waiver rows) (2 ^ 128 - 1)
-    → record { fines = f; prices = p; payments = q; waivers = w } ≡ capped_sums (before ++ rows)
-sums-then before rows sums is f p q w one two three four = λ i. record {
+    → c ≡ min (sums.charges + rows_sum Charge rows) (2 ^ 128 - 1)
+    → record { fines = f; prices = p; payments = q; waivers = w; charges = c } ≡ capped_sums (before ++ rows)
+sums-then before rows sums is f p q w c one two three four five = λ i. record {
   fines = (one ∙ capped-then Fine before rows sums.fines (ap (λ (x : Sums). x.fines) is)) i;
   prices = (two ∙ capped-then Price before rows sums.prices (ap (λ (x : Sums). x.prices) is)) i;
   payments = (three ∙ capped-then Payment before rows sums.payments (ap (λ (x : Sums). x.payments) is)) i;
   waivers = (four ∙ capped-then Waiver before rows sums.waivers (ap (λ (x : Sums). x.waivers) is)) i;
+  charges = (five ∙ capped-then Charge before rows sums.charges (ap (λ (x : Sums). x.charges) is)) i;
 }
+
+-- ---- the rows that pass
+
+pub every : (rows : List LineRow) → filter (λ r. true) rows ≡ rows
+every [] = refl
+every (r ∷ rows) = ap (λ (l : List LineRow). r ∷ l) (every rows)
+
+-- They sum to no more than all.
+sum-part : (s : Sort) (test : LineRow → Bool) (rows : List LineRow) → rows_sum s (filter test rows) ≤ rows_sum s rows
+sum-part s test [] = omega arith
+sum-part s test (r ∷ rows) = go (sum-part s test rows) (test r)
+  where
+    all : rows_sum s (r ∷ rows) ≡ rows_sum s (r ∷ []) + rows_sum s rows
+    all = sum-append s (r ∷ []) rows
+
+    go : rows_sum s (filter test rows) ≤ rows_sum s rows → (b : Bool) → rows_sum s (cond b (r ∷ filter test rows) (filter test rows)) ≤ rows_sum s (r ∷ rows)
+    go ih true =
+        let part : rows_sum s (r ∷ filter test rows) ≡ rows_sum s (r ∷ []) + rows_sum s (filter test rows) = sum-append s (r ∷ []) (filter test rows) in
+        omega (arith, ih, all, part)
+    go ih false = omega (arith, ih, all)
+
+-- One row more.
+pub picked-more : (test : LineRow → Bool) (rows picked : List LineRow) (i : ℕ) (r : LineRow) → i < length rows → r ≡ slice_index_or rows i r
+    → (b : Bool) → test r ≡ b → picked ≡ filter test (take i rows) → cond b (picked ++ r ∷ []) picked ≡ filter test (take (i + 1) rows)
+picked-more test rows picked i r within at b e is = go b e ∙ sym (filter-append test (take i rows) (r ∷ [])) ∙ ap (filter test) (sym more)
+  where
+    more : take (i + 1) rows ≡ take i rows ++ r ∷ []
+    more = take_more rows i r within ∙ ap (λ (x : LineRow). take i rows ++ x ∷ []) (sym at)
+
+    go : (b : Bool) → test r ≡ b → cond b (picked ++ r ∷ []) picked ≡ filter test (take i rows) ++ filter test (r ∷ [])
+    go true e = ap (λ (l : List LineRow). l ++ r ∷ []) is ∙ ap (λ (c : Bool). filter test (take i rows) ++ cond c (r ∷ []) []) (sym e)
+    go false e = is ∙ sym (append-nil (filter test (take i rows))) ∙ ap (λ (c : Bool). filter test (take i rows) ++ cond c (r ∷ []) []) (sym e)
+
+-- Those of a batch after those before.
+pub picked-then : (test : LineRow → Bool) (done rows picked : List LineRow) → picked ≡ filter test rows → (sums new : Sums)
+    → sums ≡ capped_sums (filter test done)
+    → (sums ≡ capped_sums (filter test done) → new ≡ capped_sums (filter test done ++ picked)) → new ≡ capped_sums (filter test (done ++ rows))
+picked-then test done rows picked same sums new is then =
+    then is ∙ ap (λ (l : List LineRow). capped_sums (filter test done ++ l)) same ∙ ap capped_sums (sym (filter-append test done rows))
 
 -- ---- no sum is too large
 
@@ -208,32 +252,54 @@ few-cents s low high (x ∷ rows) le up within =
     omega (arith, on, cents, rest, sum-cons s x rows)
 
 -- The sums of all lines of a day are those of the picture: 2^32 lines of 2^52 cents stay far below 2^128.
-pub sums-of : (P : Picture) (d : ℕ) → InLimits P → (rows : List LineRow) → AreLinesOf P d rows → (sums : Sums) → sums ≡ capped_sums rows → AreSumsOf P d sums
-sums-of P d legal rows all sums is = record {
+pub sums-of : (P : Picture) (test : LineRow → Bool) (d : ℕ) → InLimits P → (rows : List LineRow) → AreLinesOf P d rows → (sums : Sums)
+    → sums ≡ capped_sums (filter test rows) → AreSumsOf P test d sums
+sums-of P test d legal rows all sums is = record {
   rows = rows;
   all = all;
   fines = exact Fine sums.fines (ap (λ (x : Sums). x.fines) is);
   prices = exact Price sums.prices (ap (λ (x : Sums). x.prices) is);
   payments = exact Payment sums.payments (ap (λ (x : Sums). x.payments) is);
   waivers = exact Waiver sums.waivers (ap (λ (x : Sums). x.waivers) is);
+  charges = exact Charge sums.charges (ap (λ (x : Sums). x.charges) is);
 }
   where
-    exact : (s : Sort) (n : ℕ) → n ≡ capped_sum s rows → n ≡ rows_sum s rows
+    exact : (s : Sort) (n : ℕ) → n ≡ capped_sum s (filter test rows) → n ≡ rows_sum s (filter test rows)
     exact s n same =
         let few : rows_sum s rows + 0 * 4503599627370495 ≤ LAST_NUMBER * 4503599627370495 =
         few-cents s 0 LAST_NUMBER rows (omega arith) all.rise
         (λ r at. let it = (legal.lines r.line r (all.sound r at).0).1 in let one : 1 ≤ r.line = it.0.0 in
         (omega (arith, one), it.0.1, it.3)) in
-        omega (arith, same, few)
+        let part = sum-part s test rows in
+        omega (arith, same, few, part)
 
 -- After a history they are its sums.
-pub days-sums : (H : History) (d : ℕ) (sums : Sums) → AreSumsOf (picture H) d sums → sums ≡ day_sums H d
+pub days-sums : (H : History) (d : ℕ) (sums : Sums) → AreSumsOf (picture H) (λ r. true) d sums → sums ≡ day_sums H d
 days-sums H d sums of = λ i. record {
-  fines = (of.fines ∙ till-sum H d of.rows of.all Fine) i;
-  prices = (of.prices ∙ till-sum H d of.rows of.all Price) i;
-  payments = (of.payments ∙ till-sum H d of.rows of.all Payment) i;
-  waivers = (of.waivers ∙ till-sum H d of.rows of.all Waiver) i;
+  fines = (of.fines ∙ all Fine) i;
+  prices = (of.prices ∙ all Price) i;
+  payments = (of.payments ∙ all Payment) i;
+  waivers = (of.waivers ∙ all Waiver) i;
+  charges = (of.charges ∙ all Charge) i;
 }
+  where
+    all : (s : Sort) → rows_sum s (filter (λ r. true) of.rows) ≡ till_sum H d s
+    all s = ap (rows_sum s) (every of.rows) ∙ till-sum H d of.rows of.all s
+
+-- Those of what was made at a branch are the sums of its till.
+pub counter-sums : (H : History) (b d : ℕ) (sums : Sums) → AreSumsOf (picture H) (λ r. is_noted b ((picture H).notes r.line)) d sums
+    → till_at_words b d sums ≡ join_with_byte 10 (till_at_rows H b d)
+counter-sums H b d sums of =
+    let paid = of.payments ∙ till-sum-at H b d of.rows of.all Payment in
+    let charged = of.charges ∙ till-sum-at H b d of.rows of.all Charge in
+    λ i. join_with_byte 10 (spaced (codes "till" ∷ day_text d ∷ codes "at" ∷ decimal b ∷ []) ∷ till_line (codes "payments") (paid i)
+    ∷ till_line (codes "charges") (charged i) ∷ [])
+
+-- What was found of them has the lines of the branch's till of every history that the tables show.
+pub counter-learnt : {S T : Type 0} {g : Ghosts S} {a c : Held S} {d : ℕ} {r : Result T Fault} (b : ℕ) (bytes : T → List ℕ)
+    → Found (λ P text. IsTillTextAt P b d (bytes text)) g a c r → Learns (λ H text. bytes text ≡ join_with_byte 10 (till_at_rows H b d)) g a c r
+counter-learnt {d = d} b bytes found =
+    learns-on (looked found legal-rows legal-rows) (λ _ _ _. tt) (λ H legal _ text is. is.2 ∙ counter-sums H b d is.0 is.1)
 
 -- What was found of the day's lines has the lines of the report of every history that the tables show.
 pub till-rows-learnt : {S T : Type 0} {g : Ghosts S} {a b : Held S} {d : ℕ} {r : Result T Fault} (bytes : T → List ℕ)
@@ -244,7 +310,7 @@ till-rows-learnt {d = d} bytes found =
 till-joined : (H : History) (d : ℕ) → join_with_byte 10 (till_rows H d) ++ 10 ∷ [] ≡ till H d
 till-joined H d = report-joined (spaced (codes "till" ∷ day_text d ∷ []))
     (till_line (codes "fines") (till_sum H d Fine) ∷ till_line (codes "prices") (till_sum H d Price)
-    ∷ till_line (codes "payments") (till_sum H d Payment) ∷ till_line (codes "waivers") (till_sum H d Waiver) ∷ [])
+    ∷ till_line (codes "payments") (till_sum H d Payment) ∷ till_line (codes "waivers") (till_sum H d Waiver) ∷ charges_row (till_sum H d Charge))
 
 -- With a newline it is the report.
 pub till-learnt : {S T : Type 0} {g : Ghosts S} {a b : Held S} {d : ℕ} {r : Result T Fault} (bytes : T → List ℕ)

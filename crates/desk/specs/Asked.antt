@@ -5,21 +5,23 @@ use Rattle.terms.specs.declared.question.Question.TheVariants as question
 use Rattle.finding.specs.Finding.{finds}
 use Rattle.terms.specs.declared.row.CopyRow.{CopyRow}
 use Rattle.terms.specs.declared.row.PatronRow.{PatronRow}
+use Rattle.terms.specs.declared.row.Thing.TheVariants as thing
 use Rattle.terms.specs.declared.row.TitleRow.{TitleRow}
-use Rattle.model.specs.Asking.{asked, copy_line, place_line, place_words, copies_list, patrons_search, titles_search}
+use Rattle.model.specs.Asking.{asked, barcode_lines, copy_line, place_line, place_words, copies_list, patrons_search, titles_search}
 use Rattle.model.specs.AskingLaws.{ServesFirst, ServesPulled, ShowsAccounts, ShowsDebts, HasRisingLists, ListsShowOnce, has_number}
 use Rattle.model.specs.AskingLaws.{SearchesShowOnce, IsSearchedToItsEnd, found_in_turn}
 use Rattle.model.specs.Claims.{Claims}
-use Rattle.model.specs.History.{History}
+use Rattle.model.specs.History.{History, barcode_of}
 use Rattle.model.specs.Laws.{IsInBalance}
 use Rattle.model.specs.Pages.{spaced}
 use Rattle.model.specs.Picture.{Picture}
 use Rattle.model.specs.RowLaws.{ShowsRows}
 use Rattle.model.specs.Places.{Place, Shelf}
 
--- `copy` and `copies` show the copy in this place.
+-- `copy` and `copies` show the copy in this place; `copy` shows its barcode too.
 pub record IsToldAt (H : History) (copy : ℕ) (at : Place) : Type 0 where
-  pub alone : asked H (question.Copy copy) ≡ join_with_byte 10 (copy_line H copy ∷ place_line H at ∷ [])
+  pub alone : asked H (question.Copy copy)
+      ≡ join_with_byte 10 (copy_line H copy ∷ place_line H at ∷ barcode_lines (barcode_of H (thing.Copy copy)))
   pub listed : (title : ℕ)
       → (copies_list H title).row copy ≡ spaced (codes "copy" ∷ decimal copy ∷ place_words H at)
 

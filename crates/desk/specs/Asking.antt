@@ -24,16 +24,19 @@ abbrev pub queue_words : HoldRow → List ℕ
 queue_words row = spaced (codes "hold" ∷ decimal row.hold ∷ codes "patron" ∷ decimal row.patron ∷ codes "at" ∷ decimal row.branch
     ∷ from_words row.first_day)
 
+-- An account line with these words after its amount.
+abbrev pub account_words : LineRow → List (List ℕ) → List ℕ
+account_words row more = spaced (codes "line" ∷ decimal row.line ∷ day_text row.day ∷ sort_word row.sort ∷ decimal row.amount ∷ more)
+
 -- An account line, for no loan or for one.
 abbrev pub line_words : LineRow → List ℕ
-line_words row = spaced (codes "line" ∷ decimal row.line ∷ day_text row.day ∷ sort_word row.sort ∷ decimal row.amount ∷ [])
+line_words row = account_words row []
 
 abbrev pub words_of_loan : ℕ → TitleRow → List (List ℕ)
 words_of_loan loan title = codes "loan" ∷ decimal loan ∷ codes "title" ∷ decimal title.title ∷ title.text ∷ []
 
 abbrev pub charge_words : LineRow → ℕ → TitleRow → List ℕ
-charge_words row loan title = spaced (codes "line" ∷ decimal row.line ∷ day_text row.day ∷ sort_word row.sort ∷ decimal row.amount
-    ∷ words_of_loan loan title)
+charge_words row loan title = account_words row (words_of_loan loan title)
 
 -- A copy to pull from its shelf for a hold.
 abbrev pub pull_words : ℕ → ℕ → TitleRow → List ℕ

@@ -14,4 +14,5 @@ pub mod Running
 pub mod Listing
 pub mod Searching
 pub mod Placing
+pub mod Labelling
 pub mod Asking

@@ -1,5 +1,6 @@
 -- Where a copy is, by the rows that claim it.
 use Rattle.std.specs.Prelude.{◌≡◌, unwrap_or, ℕ, List, [], ◌∷◌, ◌++◌, codes, decimal, Option, Some, None, option_map}
+use Rattle.std.specs.List.{join_with_byte}
 use Rattle.calendar.specs.Days.{day_text}
 use Rattle.circ_core.specs.declared.views.View.{View}
 use Rattle.terms.specs.declared.row.CopyRow.{CopyRow}
@@ -14,7 +15,7 @@ use Rattle.model.specs.Accounts.{borrower}
 use Rattle.model.specs.Loans.{due}
 use Rattle.model.specs.Places.{Place, Shelf, HoldShelf, Transit, Loan, MissingCopy, WithdrawnCopy, place, limit, goal_of, patron_of_hold}
 use Rattle.model.specs.Pages.{spaced}
-use Rattle.model.specs.Asking.{for_words}
+use Rattle.model.specs.Asking.{for_words, copy_line, place_line}
 use Rattle.desk.specs.declared.placing.CopyPlace.{CopyPlace}
 use Rattle.desk.specs.declared.placing.CopyPlace.TheVariants as at
 
@@ -73,6 +74,10 @@ IsPlace H at.Withdrawn p = p ≡ WithdrawnCopy
 -- A copy is in this place.
 abbrev pub IsAt : History → ℕ → CopyPlace → Type 0
 IsAt H copy here = IsPlace H here (place H copy)
+
+-- A copy, and where it is.
+abbrev pub two_lines : History → ℕ → List ℕ
+two_lines H c = join_with_byte 10 (copy_line H c ∷ place_line H (place H c) ∷ [])
 
 -- Words after others, each preceded by a space.
 abbrev pub after_space : List (List ℕ) → List ℕ

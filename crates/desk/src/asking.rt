@@ -7,6 +7,7 @@ ghost use Rattle.terms.specs.declared.refusal.Refusal.TheVariants.{UnknownTitle}
 ghost use Rattle.circ_core.specs.Views.{IsCopyView};
 ghost use Rattle.terms.specs.declared.reply.Reply.TheVariants.{Shown};
 ghost use Rattle.model.specs.History.{title_of};
+ghost use Rattle.desk.specs.Placing.{two_lines};
 ghost use Rattle.model.specs.Picture.{picture};
 ghost use Rattle.model.specs.Refusals.{has_branch, has_copy};
 ghost use Rattle.model.specs.Asking.{asked, listed};
@@ -17,6 +18,7 @@ ghost use Rattle.desk.specs.Asking.{IsAnswer, reply_if, title_words_of};
 ghost use Rattle.desk.specs.Asking.{today_words, kind_words};
 ghost use Rattle.desk.specs.Paging.{patron_words};
 
+use crate::labelling::{thing_text, with_barcode};
 use crate::listing::{Listed, list_text};
 use crate::lists::{
     AccountOf, CopiesOf, Debtors, LoansOf, MissingCopies, PullsAt, QueueFor, TransitsTo,
@@ -29,14 +31,15 @@ use crate::searches::{PatronsByName, TitlesByText};
 use crate::searching::search_text;
 use crate::settings::{Branches, ClosedDaysOf, Kinds, RulesOf};
 use crate::shelf::{SHELF_HEADER, ShelfAt};
-use crate::till::till_text;
+use crate::till::{till_text, till_text_at};
 use circ_core::View;
 use sqlite::Alter;
 use std::alloc::Global;
 use store::Store;
 use terms::{
-    BranchId, CopyId, CopyKind, Day, DayNumber, Fault, HoldId, LineId, LoanId, Memory, Name,
-    PatronId, PatronKind, PatronRow, Question, Refusal, Reply, Text, TitleId, TitleRow,
+    Barcode, BranchId, CopyId, CopyKind, Day, DayNumber, Fault, HoldId, LineId, LoanId, Memory,
+    Name, PatronId, PatronKind, PatronRow, Question, Refusal, Reply, Text, Thing, TitleId,
+    TitleRow,
 };
 
 /// Makes the reply that shows a text.
@@ -150,14 +153,15 @@ fn reply_for_copy<S: Alter>(
 {
     match &rows.copy {
         Some(row) => {
-            let text = copy_text(store, alloc, row, rows)?;
+            let lines = copy_text(store, alloc, row, rows)?;
+            let text = with_barcode(store, alloc, lines, Thing::Copy(copy))?;
             Ok(shown(text))
         }
         None => Ok(Reply::Refused(Refusal::UnknownCopy)),
     }
 }
 
-/// Shows a copy and where it is, or 13. Faults 90, 91, 93.
+/// Shows a copy, where it is and its barcode, or 13. Faults 90, 91, 93.
 fn show_copy<S: Alter>(store: &mut Store<S>, alloc: Global, copy: CopyId) -> Result<Reply, Fault>
     ensures { Learns (IsAnswer (question.Copy copy))
         S.Store store.old store.new result }
@@ -228,7 +232,7 @@ fn show_today<S: Alter>(store: &mut Store<S>, alloc: Global) -> Result<Reply, Fa
     Ok(shown(text))
 }
 
-/// Shows what a patron owes, and the kind, or 11. Faults 90, 91, 93.
+/// Shows what a patron owes, the kind and the barcode, or 11. Faults 90, 91, 93.
 fn show_borrower<S: Alter>(
     store: &mut Store<S>,
     alloc: Global,
@@ -239,10 +243,29 @@ fn show_borrower<S: Alter>(
 {
     match store.patron(alloc, patron)? {
         Some(row) => {
-            let text = borrower_text(alloc, &row)?;
+            let lines = borrower_text(alloc, &row)?;
+            let text = with_barcode(store, alloc, lines, Thing::Patron(patron))?;
             Ok(shown(text))
         }
         None => Ok(Reply::Refused(Refusal::UnknownPatron)),
+    }
+}
+
+/// Shows what has the barcode, or 18. Faults 90, 91, 93.
+fn show_barcode<S: Alter>(
+    store: &mut Store<S>,
+    alloc: Global,
+    barcode: &Barcode,
+) -> Result<Reply, Fault>
+    ensures { Learns (IsAnswer (question.FindBarcode barcode.now))
+        S.Store store.old store.new result }
+{
+    match store.find_barcode(alloc, barcode)? {
+        Some(thing) => {
+            let text = thing_text(alloc, thing)?;
+            Ok(shown(text))
+        }
+        None => Ok(Reply::Refused(Refusal::UnknownBarcode)),
     }
 }
 
@@ -324,6 +347,25 @@ fn show_till<S: Alter>(store: &mut Store<S>, alloc: Global, day: Day) -> Result<
 {
     let text = till_text(store, alloc, day)?;
     Ok(shown(text))
+}
+
+/// Shows the sums of a branch's counter on a day, or 10. Faults 90, 91, 93.
+fn show_till_at<S: Alter>(
+    store: &mut Store<S>,
+    alloc: Global,
+    branch: BranchId,
+    day: Day,
+) -> Result<Reply, Fault>
+    ensures { Learns (IsAnswer (question.TillAt branch day))
+        S.Store store.old store.new result }
+{
+    match store.branch(alloc, branch)? {
+        Some(_row) => {
+            let text = till_text_at(store, alloc, branch, day)?;
+            Ok(shown(text))
+        }
+        None => Ok(Reply::Refused(Refusal::UnknownBranch)),
+    }
 }
 
 /// Shows the branches. Faults 90, 91, 93.
@@ -468,5 +510,7 @@ pub(crate) fn reply_to_question<S: Alter>(
         Question::Rules { kind, after } => show_rules(store, alloc, *kind, *after),
         Question::MissingCopies { after } => show_missing_copies(store, alloc, *after),
         Question::Loans { copy, after } => show_loans(store, alloc, *copy, *after),
+        Question::FindBarcode { barcode } => show_barcode(store, alloc, barcode),
+        Question::TillAt { branch, day } => show_till_at(store, alloc, *branch, *day),
     }
 }

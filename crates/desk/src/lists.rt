@@ -2,14 +2,16 @@
 
 ghost use Rattle.std.specs.Prelude.{◌≡◌, ◌==◌, Some, true, is_some, IfOk, string_bytes};
 ghost use Rattle.model.specs.History.{today, has_begun};
-ghost use Rattle.model.specs.Asking.{sort_word, pulled_for};
+ghost use Rattle.model.specs.Asking.{loan_words, sort_word, pulled_for};
 ghost use Rattle.model.specs.Picture.{picture};
 ghost use Rattle.model.specs.RowLaws.{missing_copy_words, loan_row_words};
 ghost use Rattle.desk.specs.Answering.{LearnsIf};
-ghost use Rattle.desk.specs.Asking.{queue_words, line_words, charge_words, pull_words};
+ghost use Rattle.desk.specs.Asking.{queue_words, account_words, line_words, charge_words};
+ghost use Rattle.desk.specs.Asking.{pull_words};
 ghost use Rattle.desk.specs.Asking.{words_of_loan, IsTitleOfLoan};
 ghost use Rattle.desk.specs.Placing.{after_space};
 
+use crate::labelling::note_text;
 use crate::listing::Listed;
 use crate::patron_page::{patron_line, title_of_copy, title_row};
 use crate::placing::{copy_row, place_of, travel_row};
@@ -210,6 +212,7 @@ fn sort_word(sort: Sort) -> &'static str
         Sort::Price => "price",
         Sort::Payment => "payment",
         Sort::Waiver => "waiver",
+        Sort::Charge => "charge",
     }
 }
 
@@ -267,6 +270,26 @@ fn title_of_loan<S: Alter>(
     }
 }
 
+/// Makes the row of an account line, with its loan and title if it has one. Faults 90, 91; 93, also
+/// if a row is missing.
+fn account_row<S: Alter>(
+    store: &mut Store<S>,
+    alloc: Global,
+    row: &LineRow,
+) -> Result<String, Fault>
+    ensures { LearnsIf (λ H. (picture H).lines row.now.line ≡ Some row.now)
+        (λ H text. string_bytes text ≡ account_words row.now (loan_words H row.now.loan))
+        S.Store store.old store.new result }
+{
+    match row.loan {
+        Some(loan) => {
+            let title = title_of_loan(store, alloc, loan)?;
+            Ok(charge_row(alloc, row, loan, &title)?)
+        }
+        None => Ok(payment_row(alloc, row)?),
+    }
+}
+
 impl Listed for AccountOf {
     ghost use Rattle.std.specs.Prelude.{◌≡◌, Some};
     ghost use Rattle.model.specs.Asking.{account_list};
@@ -301,13 +324,10 @@ impl Listed for AccountOf {
         alloc: Global,
         row: &LineRow,
     ) -> Result<Option<String>, Fault> {
-        match row.loan {
-            Some(loan) => {
-                let title = title_of_loan(store, alloc, loan)?;
-                Ok(Some(charge_row(alloc, row, loan, &title)?))
-            }
-            None => Ok(Some(payment_row(alloc, row)?)),
-        }
+        let mut text = account_row(store, alloc, row)?;
+        let note = note_text(store, alloc, row.line)?;
+        text.push_str(&note)?;
+        Ok(Some(text))
     }
 }
 

@@ -4,15 +4,14 @@
 ghost use Rattle.std.specs.Prelude.{◌≡◌, IfOk, string_bytes, codes, decimal, ◌∷◌, []};
 ghost use Rattle.model.specs.Pages.{spaced};
 ghost use Rattle.std.specs.Prelude.{Some, IfSome, is_some, option_map, true};
-ghost use Rattle.terms.specs.declared.question.Question.TheVariants as question;
 ghost use Rattle.circ_core.specs.Views.{IsCopyView};
-ghost use Rattle.model.specs.Asking.{asked, patron_words, patron_at as patron_at_place};
+ghost use Rattle.model.specs.Asking.{patron_words, patron_at as patron_at_place};
 ghost use Rattle.model.specs.Asking.{place_line as place_line_of};
 ghost use Rattle.model.specs.Picture.{picture};
 ghost use Rattle.model.specs.Places.{place as place_in_history, patron_of_hold as patron_of};
 ghost use Rattle.desk.specs.Answering.{LearnsIf};
 ghost use Rattle.desk.specs.Placing.{unclaimed, place_in, words_of, copy_words, travel_words};
-ghost use Rattle.desk.specs.Placing.{IsAt, after_space};
+ghost use Rattle.desk.specs.Placing.{IsAt, after_space, two_lines};
 
 use crate::patron_page::{add_line, title_row};
 use circ_core::View;
@@ -255,7 +254,7 @@ pub(crate) fn copy_text<S: Alter>(
     ensures { LearnsIf
         (λ H. ((picture H).copies row.now.copy ≡ Some row.now)
         × IsCopyView (picture H) row.now.copy rows.now)
-        (λ H text. string_bytes text ≡ asked H (question.Copy row.now.copy))
+        (λ H text. string_bytes text ≡ two_lines H row.now.copy)
         S.Store store.old store.new result }
 {
     let Some(place) = place_of(rows, row) else {

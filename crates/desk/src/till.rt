@@ -1,23 +1,27 @@
-//! The till report of a day.
+//! The till of a day: the report, and the sums of one branch's counter.
 
-ghost use Rattle.std.specs.Prelude.{◌≡◌, ◌++◌, ◌^◌, ◌-◌, ◌+◌, cond, min, List, IfOk};
-ghost use Rattle.std.specs.Prelude.{string_bytes};
+ghost use Rattle.std.specs.Prelude.{◌≡◌, ◌++◌, ◌^◌, ◌-◌, ◌+◌, cond, filter, min, List, IfOk};
+ghost use Rattle.std.specs.Prelude.{codes, string_bytes};
 ghost use Rattle.terms.specs.declared.row.LineRow.{LineRow as AnyLine};
 ghost use Rattle.terms.specs.Limits.{InLimits};
 ghost use Rattle.store.specs.Reads.{Looked};
 ghost use Rattle.model.specs.Reports.{is_sort};
 ghost use Rattle.desk.specs.Parts.{IsLast};
 ghost use Rattle.desk.specs.Written.{WritesTill};
-ghost use Rattle.desk.specs.Reporting.{rows_sum, capped_sums, AreSumsOf, till_words, IsTillText};
-ghost use Rattle.desk.specs.Reporting.{IsTillReport};
+ghost use Rattle.model.specs.Reports.{till_line};
+ghost use Rattle.desk.specs.Reporting.{rows_sum, capped_sums, AreSumsOf, sums_words, till_words};
+ghost use Rattle.desk.specs.Reporting.{IsTillText};
+ghost use Rattle.desk.specs.Reporting.{IsTillReport, ArePicked, is_noted, till_at_words};
+ghost use Rattle.desk.specs.Reporting.{IsTillTextAt};
 
+use crate::patron_page::add_line;
 use crate::report_fault::ReportFault;
 use crate::reports::with_newline;
 use sqlite::Alter;
 use std::alloc::Global;
 use std::io::Write;
 use store::{BATCH_ROWS, Store};
-use terms::{Day, Fault, LineId, LineRow, Memory, Sort, write_bytes};
+use terms::{BranchId, Day, Fault, LineId, LineRow, Memory, NoteRow, Sort, write_bytes};
 
 /// The sums of a day's lines by sort, in cents. There are fewer than 2^32 lines, each below 2^52
 /// cents, so no sum comes near 2^128.
@@ -27,6 +31,7 @@ struct Sums {
     prices: u128,
     payments: u128,
     waivers: u128,
+    charges: u128,
 }
 
 /// Returns the line's amount if it is of this sort, else 0.
@@ -61,6 +66,7 @@ fn add_lines(sums: Sums, rows: &[LineRow]) -> Sums
         prices: added(sums.prices, rows, Sort::Price),
         payments: added(sums.payments, rows, Sort::Payment),
         waivers: added(sums.waivers, rows, Sort::Waiver),
+        charges: added(sums.charges, rows, Sort::Charge),
     }
 }
 
@@ -77,10 +83,105 @@ fn last_line(rows: &[LineRow]) -> Option<u32>
     }
 }
 
-/// Sums a day's lines, read in batches. Faults 90, 91; 93, but never if all rows are within their
-/// limits.
-fn sum_day<S: Alter>(store: &mut Store<S>, alloc: Global, day: Day) -> Result<Sums, Fault>
-    ensures { Looked InLimits (λ P sums. AreSumsOf P day sums) InLimits
+/// Which lines of a day are summed.
+trait Picked {
+    ghost use Rattle.std.specs.Prelude.{Bool};
+    ghost use Rattle.terms.specs.Pictures.{Picture};
+    ghost use Rattle.terms.specs.declared.row.LineRow.{LineRow as AnyLine};
+
+    ghost test: { Self → Picture → AnyLine → Bool };
+
+    /// Returns the rows that are summed. Faults 90, 91; 93, but never if all rows are within their
+    /// limits.
+    fn pick<S: Alter>(
+        &self,
+        store: &mut Store<S>,
+        alloc: Global,
+        rows: Vec<LineRow>,
+    ) -> Result<Vec<LineRow>, Fault>
+        ensures { Looked InLimits (λ P picked. ArePicked (test self.now P) rows.items picked.items)
+            InLimits S.Store store.old store.new result };
+}
+
+/// All of them.
+#[derive(Clone, Copy)]
+struct EachLine;
+
+impl Picked for EachLine {
+    ghost use Rattle.std.specs.Prelude.{true};
+
+    ghost test = { λ _ P r. true };
+
+    fn pick<S: Alter>(
+        &self,
+        _store: &mut Store<S>,
+        _alloc: Global,
+        rows: Vec<LineRow>,
+    ) -> Result<Vec<LineRow>, Fault> {
+        Ok(rows)
+    }
+}
+
+/// Those made at a branch.
+#[derive(Clone, Copy)]
+struct MadeAt {
+    branch: BranchId,
+}
+
+/// Returns whether the note says that its line was made at the branch.
+fn is_noted(branch: BranchId, note: &Option<NoteRow>) -> bool
+    ensures { result ≡ is_noted branch note.now }
+{
+    match note {
+        Some(note) => note.branch == branch,
+        None => false,
+    }
+}
+
+/// Returns the rows of lines that were made at the branch. Faults 90, 91; 93, but never if all rows
+/// are within their limits.
+fn made_at<S: Alter>(
+    store: &mut Store<S>,
+    alloc: Global,
+    rows: &[LineRow],
+    branch: BranchId,
+) -> Result<Vec<LineRow>, Fault>
+    ensures { Looked InLimits
+        (λ P picked. ArePicked (λ r. is_noted branch (P.notes r.line)) rows.now picked.items)
+        InLimits S.Store store.old store.new result }
+{
+    let mut picked = Vec::new(alloc);
+    'rows: for row in rows {
+        let note = store.note(alloc, row.line)?;
+        if is_noted(branch, &note) {
+            picked.push(*row)?;
+        }
+    }
+    Ok(picked)
+}
+
+impl Picked for MadeAt {
+    ghost test = { λ s P r. is_noted s.branch (P.notes r.line) };
+
+    fn pick<S: Alter>(
+        &self,
+        store: &mut Store<S>,
+        alloc: Global,
+        rows: Vec<LineRow>,
+    ) -> Result<Vec<LineRow>, Fault> {
+        made_at(store, alloc, rows.as_slice(), self.branch)
+    }
+}
+
+/// Sums the lines of a day that are picked, read in batches. Faults 90, 91; 93, but never if all
+/// rows are within their limits.
+fn sum_day<L: Picked, S: Alter>(
+    store: &mut Store<S>,
+    alloc: Global,
+    day: Day,
+    lines: &L,
+) -> Result<Sums, Fault>
+    ensures { Looked InLimits (λ P sums. AreSumsOf P (L.test lines.now P) day sums) InLimits
         S.Store store.old store.new result }
 {
     let mut sums = Sums {
@@ -88,13 +189,15 @@ fn sum_day<S: Alter>(store: &mut Store<S>, alloc: Global, day: Day) -> Result<Su
         prices: 0,
         payments: 0,
         waivers: 0,
+        charges: 0,
     };
     let mut after = LineId::new(0);
     'batches: for _batch in 0..u64::MAX {
         let rows = store.lines(alloc, day, after)?;
-        let batch = rows.as_slice();
-        sums = add_lines(sums, batch);
-        match last_line(batch) {
+        let last = last_line(rows.as_slice());
+        let picked = lines.pick(store, alloc, rows)?;
+        sums = add_lines(sums, picked.as_slice());
+        match last {
             Some(last) => after = LineId::new(last),
             None => return Ok(sums),
         }
@@ -102,20 +205,67 @@ fn sum_day<S: Alter>(store: &mut Store<S>, alloc: Global, day: Day) -> Result<Su
     Err(Fault::Stored)
 }
 
-/// Makes the lines of the till report.
+/// Makes the lines of the till report but that of charges.
 fn till_lines(alloc: Global, day: Day, sums: Sums) -> Result<String, Memory>
-    ensures { IfOk result (λ text. string_bytes text ≡ till_words day sums) }
+    ensures { IfOk result (λ text. string_bytes text ≡ sums_words day sums) }
 {
     let Sums {
         fines,
         prices,
         payments,
         waivers,
+        ..
     } = sums;
     format!(in alloc;
         "till {day}\nfines    {fines:>15}\nprices   {prices:>15}\n\
          payments {payments:>15}\nwaivers  {waivers:>15}"
     )
+}
+
+/// Makes the row of charges.
+fn charges_line(alloc: Global, charges: u128) -> Result<String, Memory>
+    ensures { IfOk result (λ text. string_bytes text ≡ till_line (codes "charges") charges) }
+{
+    format!(in alloc; "charges  {charges:>15}")
+}
+
+/// Makes the lines of the till report, with the row of charges if there are any.
+fn all_till_lines(alloc: Global, day: Day, sums: Sums) -> Result<String, Memory>
+    ensures { IfOk result (λ text. string_bytes text ≡ till_words day sums) }
+{
+    let mut text = till_lines(alloc, day, sums)?;
+    if 0 < sums.charges {
+        let line = charges_line(alloc, sums.charges)?;
+        add_line(&mut text, &line)?;
+    }
+    Ok(text)
+}
+
+/// Makes the lines of a branch's till.
+fn till_at_lines(alloc: Global, branch: BranchId, day: Day, sums: Sums) -> Result<String, Memory>
+    ensures { IfOk result (λ text. string_bytes text ≡ till_at_words branch day sums) }
+{
+    let Sums {
+        payments,
+        charges,
+        ..
+    } = sums;
+    format!(in alloc; "till {day} at {branch}\npayments {payments:>15}\ncharges  {charges:>15}")
+}
+
+/// Makes the lines of the till of a branch on a day. Faults 90, 91; 93, but never if all rows are
+/// within their limits.
+pub(crate) fn till_text_at<S: Alter>(
+    store: &mut Store<S>,
+    alloc: Global,
+    branch: BranchId,
+    day: Day,
+) -> Result<String, Fault>
+    ensures { Looked InLimits (λ P text. IsTillTextAt P branch day (string_bytes text)) InLimits
+        S.Store store.old store.new result }
+{
+    let sums = sum_day(store, alloc, day, &MadeAt { branch })?;
+    Ok(till_at_lines(alloc, branch, day, sums)?)
 }
 
 /// Makes the lines of a day's till report. Faults 90, 91; 93, but never if all rows are within
@@ -128,8 +278,8 @@ pub(crate) fn till_text<S: Alter>(
     ensures { Looked InLimits (λ P text. IsTillText P day (string_bytes text)) InLimits
         S.Store store.old store.new result }
 {
-    let sums = sum_day(store, alloc, day)?;
-    Ok(till_lines(alloc, day, sums)?)
+    let sums = sum_day(store, alloc, day, &EachLine)?;
+    Ok(all_till_lines(alloc, day, sums)?)
 }
 
 /// Makes the till report of a day. Faults 90, 91; 93, but never if all rows are within their

@@ -110,8 +110,53 @@ fn serves_patrons_their_own(rt: HostRuntime) -> Result<(), Fail> {
     serves(&rt, alloc, &mut desk)?;
     let found = counts(&mut store_of(desk), alloc)?;
     // next loan; branches, closed days, kinds, rules, patrons, titles, copies; loans, holds,
-    // transits, lines; kept, and by patrons
-    assert!(rt; found == [3, 2, 1, 1, 2, 3, 3, 4, 2, 1, 0, 1, 25, 3]);
+    // transits, lines; barcodes, notes; kept, and by patrons
+    assert!(rt; found == [3, 2, 1, 1, 2, 3, 3, 4, 2, 1, 0, 1, 0, 0, 25, 3]);
+    Ok(())
+}
+
+/// What is labelled, what is charged at a branch, and what is paid there.
+const LABELLED: &str = "desk b1 copy-barcode 10 30000100000010 -> ok
+desk b2 copy-barcode 99 30000100000010 -> refused 13
+desk b2 patron-barcode 9 X1 -> refused 11
+desk b2 copy-barcode 11 30000100000010 -> refused 26
+desk b2 patron-barcode 2 30000100000010 -> refused 26
+desk b2 patron-barcode 1 a1 -> ok
+desk b3 copy-barcode 10 01 -> ok
+desk b9 find-barcode 30000100000010 -> refused 18
+desk b9 find-barcode A1 -> refused 18
+desk b9 find-barcode a1 -> patron 1
+desk b9 find-barcode 1 -> refused 18
+desk b9 find-barcode 01 -> copy 10
+desk b9 copy 10 -> copy 10 home 1 kind 1 price 2500 title 100 Rivers of the North; shelf 1; barcode 01
+desk b9 borrower 1 -> patron 1 owed 0 name Ann Bell; kind 1; barcode a1
+desk b4 drop-barcode a1 -> ok
+desk b5 drop-barcode a1 -> refused 18
+desk b5 charge 9 1000001 9 Card -> refused 21
+desk b5 charge 9 0 9 Card -> refused 11
+desk b5 charge 2 0 9 Card -> refused 10
+desk b5 charge 2 0 1 Card -> refused 60
+desk b5 charge 2 250 1|Photocopies, 10 pages -> owed 250
+desk b6 pay-at 2 251 1 -> refused 60
+desk b6 pay-at 9 100 2 -> refused 11
+desk b6 pay-at 2 100 9 -> refused 10
+desk b6 pay-at 2 100 2 -> owed 150
+desk b7 pay 2 50 -> owed 100
+desk b9 account 2 0 -> patron 2 owed 100 name Bo Carr; line 1 2026-03-02 charge 250 at 1 for Photocopies, 10 pages; line 2 2026-03-02 payment 100 at 2; line 3 2026-03-02 payment 50; end
+desk b9 till 2026-03-02 -> till 2026-03-02; fines                  0; prices                 0; payments             150; waivers                0; charges              250
+desk b9 till-at 1 2026-03-02 -> till 2026-03-02 at 1; payments               0; charges              250
+desk b9 till-at 2 2026-03-02 -> till 2026-03-02 at 2; payments             100; charges                0
+desk b9 till-at 9 2026-03-02 -> refused 10
+desk b9 till 2026-03-03 -> till 2026-03-03; fines                  0; prices                 0; payments               0; waivers                0
+2/cardkey00002 b9 find-barcode 01 -> refused 81";
+
+#[test]
+fn labels_copies_and_patrons_and_charges_at_a_branch(rt: HostRuntime) -> Result<(), Fail> {
+    let alloc = rt.alloc();
+    let mut desk = ground(alloc)?;
+    check(alloc, &mut desk, LABELLED)?;
+    let found = counts(&mut store_of(desk), alloc)?;
+    assert!(rt; found == [1, 2, 0, 1, 2, 3, 3, 4, 0, 0, 0, 3, 1, 2, 22, 0]);
     Ok(())
 }
 

@@ -21,21 +21,24 @@ use test_library::{
 #[derive(Clone, Copy)]
 struct Older {
     schema: u32,
+    before: &'static str,
     texts: &'static str,
     first_day: &'static str,
 }
 
-/// What a library has before schema 3: four indexes and two tables fewer, two rules, an open loan
-/// and an ended one.
-const BEFORE_3: &str = "DROP INDEX copies_title;DROP INDEX lines_patron;DROP INDEX holds2_state;\
-DROP INDEX copies_condition;\
-DROP TABLE rules3;DROP TABLE loans3;\
+/// What a library may have before schema 4: two tables fewer, and four of the last indexes.
+const BEFORE_4: &str = "DROP TABLE barcodes;DROP TABLE notes;\
+DROP INDEX copies_title;DROP INDEX lines_patron;DROP INDEX holds2_state;DROP INDEX copies_condition";
+
+/// What it has before schema 3: two more tables fewer, two rules, an open loan and an ended one.
+const BEFORE_3: &str = "DROP TABLE rules3;DROP TABLE loans3;\
 INSERT INTO rules VALUES (1, 1, 6, 1, 20, 100), (1, 2, 12, 1, 20, 100);\
 INSERT INTO loans VALUES (1, 11, 1, 1, 20514, 20521, 6, 1, 20, 100, NULL), (2, 20, 2, 2, 20500, 20513, 12, 0, 20, 100, 20514)";
 
 /// A library of schema 1, with a hold in each state.
 const FIRST: Older = Older {
     schema: 1,
+    before: BEFORE_3,
     texts: "DROP TABLE holds2;UPDATE meta SET schema = 1, next_loan = 3, next_hold = 6;\
 INSERT INTO holds VALUES (1, 1, 100, 1, 0, NULL, NULL), (2, 2, 100, 2, 1, 10, 20519), (3, 2, 200, 1, 2, NULL, NULL), (4, 3, 200, 2, 3, NULL, NULL), (5, 1, 300, 1, 4, NULL, NULL)",
     first_day: "none",
@@ -44,7 +47,17 @@ INSERT INTO holds VALUES (1, 1, 100, 1, 0, NULL, NULL), (2, 2, 100, 2, 1, 10, 20
 /// The same in schema 2, with a first day for the first hold.
 const SECOND: Older = Older {
     schema: 2,
+    before: BEFORE_3,
     texts: "UPDATE meta SET schema = 2, next_loan = 3, next_hold = 6;\
+INSERT INTO holds2 VALUES (1, 1, 100, 1, 0, NULL, NULL, 20543), (2, 2, 100, 2, 1, 10, 20519, NULL), (3, 2, 200, 1, 2, NULL, NULL, NULL), (4, 3, 200, 2, 3, NULL, NULL, NULL), (5, 1, 300, 1, 4, NULL, NULL, NULL)",
+    first_day: "20543",
+};
+
+/// The same in schema 3.
+const THIRD: Older = Older {
+    schema: 3,
+    before: "INSERT INTO loans3 VALUES (1, 11, 1, 1, 20514, 20521, 6, 1, 20, 100, NULL, 0), (2, 20, 2, 2, 20500, 20513, 12, 0, 20, 100, 20514, 0)",
+    texts: "UPDATE meta SET schema = 3, next_loan = 3, next_hold = 6;\
 INSERT INTO holds2 VALUES (1, 1, 100, 1, 0, NULL, NULL, 20543), (2, 2, 100, 2, 1, 10, 20519, NULL), (3, 2, 200, 1, 2, NULL, NULL, NULL), (4, 3, 200, 2, 3, NULL, NULL, NULL), (5, 1, 300, 1, 4, NULL, NULL, NULL)",
     first_day: "20543",
 };
@@ -54,7 +67,8 @@ fn changed_tables(schema: u32) -> &'static str {
     match schema {
         1 => "meta rules loans holds",
         2 => "meta rules loans holds holds2",
-        _ => "meta rules loans holds holds2 rules3 loans3",
+        3 => "meta rules loans holds holds2 rules3 loans3",
+        _ => "meta rules loans holds holds2 rules3 loans3 barcodes notes",
     }
 }
 
@@ -74,15 +88,18 @@ fn changed_rows(alloc: Global, schema: u32, first_day: &str) -> Result<String, F
             \n\
             \n1|1|100|1|0|none|none|{first_day}|;2|2|100|2|1|10|20519|none|;3|2|200|1|2|none|none|none|;4|3|200|2|3|none|none|none|;5|1|300|1|4|none|none|none|;"
         )?,
-        _ => format!(in alloc;
-            "\n1|3|20514|3|6|1|;\
-            \n\
-            \n\
-            \n\
-            \n1|1|100|1|0|none|none|{first_day}|;2|2|100|2|1|10|20519|none|;3|2|200|1|2|none|none|none|;4|3|200|2|3|none|none|none|;5|1|300|1|4|none|none|none|;\
-            \n1|1|6|1|20|100|0|;1|2|12|1|20|100|0|;\
-            \n1|11|1|1|20514|20521|6|1|20|100|none|0|;2|20|2|2|20500|20513|12|0|20|100|20514|0|;"
-        )?,
+        _ => {
+            let labels = if schema == 3 { "" } else { "\n\n" };
+            format!(in alloc;
+                "\n1|{schema}|20514|3|6|1|;\
+                \n\
+                \n\
+                \n\
+                \n1|1|100|1|0|none|none|{first_day}|;2|2|100|2|1|10|20519|none|;3|2|200|1|2|none|none|none|;4|3|200|2|3|none|none|none|;5|1|300|1|4|none|none|none|;\
+                \n1|1|6|1|20|100|0|;1|2|12|1|20|100|0|;\
+                \n1|11|1|1|20514|20521|6|1|20|100|none|0|;2|20|2|2|20500|20513|12|0|20|100|20514|0|;{labels}"
+            )?
+        }
     })
 }
 
@@ -99,7 +116,7 @@ struct Found {
 
 /// Makes an older library of one of the newest schema.
 fn made_older<S: Alter>(conn: &mut Connection<S>, library: Older) -> Result<(), Fail> {
-    for texts in [BEFORE_3, library.texts] {
+    for texts in [BEFORE_4, library.before, library.texts] {
         for text in texts.split(';') {
             conn.execute(text, &[])?;
         }
@@ -195,6 +212,7 @@ fn migrated_in<D: Disk + Drop>(
 struct Hits {
     first: u64,
     second: u64,
+    third: u64,
     newest: u64,
 }
 
@@ -208,6 +226,10 @@ impl Hits {
             },
             2 => Hits {
                 second: self.second.saturating_add(1),
+                ..self
+            },
+            3 => Hits {
+                third: self.third.saturating_add(1),
                 ..self
             },
             _ => Hits {
@@ -247,9 +269,10 @@ fn stops(rt: &impl Abort, alloc: Global, library: Older, is_log: bool) -> Result
     let mut hits = Hits {
         first: 0,
         second: 0,
+        third: 0,
         newest: 0,
     };
-    for at in 1..800u64 {
+    for at in 1..1_200u64 {
         let mut is_done = true;
         for loses in [(false, false), (true, false), (false, true)] {
             let files = fused(alloc, &base, (is_log, first.saturating_add(at)))?;
@@ -264,37 +287,42 @@ fn stops(rt: &impl Abort, alloc: Global, library: Older, is_log: bool) -> Result
 
 #[test]
 fn a_stop_at_each_call_of_the_log_leaves_whole_steps(rt: HostRuntime) -> Result<(), Fail> {
-    let hits = stops(&rt, rt.alloc(), FIRST, true)?;
-    assert!(rt;
-        hits.first > 4 && hits.second > 4 && hits.newest > 0,
-        "{} {} {}",
-        hits.first,
-        hits.second,
-        hits.newest
-    );
-    let hits = stops(&rt, rt.alloc(), SECOND, true)?;
-    assert!(rt;
-        hits.first == 0 && hits.second > 4 && hits.newest > 0,
-        "{} {}",
-        hits.second,
-        hits.newest
-    );
+    for library in [FIRST, SECOND, THIRD] {
+        let hits = stops(&rt, rt.alloc(), library, true)?;
+        let Hits {
+            first,
+            second,
+            third,
+            newest,
+        } = hits;
+        assert!(rt;
+            (first > 4) == (library.schema < 2)
+                && (second > 4) == (library.schema < 3)
+                && third > 4
+                && newest > 0,
+            "{first} {second} {third} {newest}"
+        );
+    }
     Ok(())
 }
 
 #[test]
 fn a_stop_at_each_call_of_the_database_leaves_whole_steps(rt: HostRuntime) -> Result<(), Fail> {
-    for library in [FIRST, SECOND] {
+    for library in [FIRST, SECOND, THIRD] {
         let hits = stops(&rt, rt.alloc(), library, false)?;
+        let Hits {
+            first,
+            second,
+            third,
+            newest,
+        } = hits;
         assert!(rt;
-            hits.first
-                .saturating_add(hits.second)
-                .saturating_add(hits.newest)
+            first
+                .saturating_add(second)
+                .saturating_add(third)
+                .saturating_add(newest)
                 > 4,
-            "{} {} {}",
-            hits.first,
-            hits.second,
-            hits.newest
+            "{first} {second} {third} {newest}"
         );
     }
     Ok(())
@@ -308,7 +336,7 @@ fn limits(rt: &impl Abort, alloc: Global, library: Older) -> Result<u64, Fail> {
     made_older(&mut conn, library)?;
     let others = look(alloc, &mut conn)?.others;
     let mut refused = 0u64;
-    for limit in 1..800u64 {
+    for limit in 1..1_200u64 {
         let mut store = open(conn)?;
         limit_steps(&mut store, Some(limit));
         let is_done = told(rt, alloc, &mut store);
@@ -330,7 +358,7 @@ fn limits(rt: &impl Abort, alloc: Global, library: Older) -> Result<u64, Fail> {
 
 #[test]
 fn a_limit_on_steps_leaves_whole_steps(rt: HostRuntime) -> Result<(), Fail> {
-    for library in [FIRST, SECOND] {
+    for library in [FIRST, SECOND, THIRD] {
         let refused = limits(&rt, rt.alloc(), library)?;
         assert!(rt; refused > 0, "{refused}");
     }

@@ -17,7 +17,7 @@ use test_library::{
 /// `meta`, the last of `kept`, which is followed by no holds, and the loans.
 fn tables(alloc: Global, next: &str, loans: &str, kept: &str) -> Result<String, Fail> {
     Ok(format!(in alloc;
-        "\n1|3|20514|{next}|1|1|;\
+        "\n1|4|20514|{next}|1|1|;\
         \n1|5|ooooooc|Main|;2|3|coooooc|Harbour|;\
         \n\
         \n1|5|5|500|;\
@@ -38,7 +38,9 @@ fn tables(alloc: Global, next: &str, loans: &str, kept: &str) -> Result<String, 
         0|g15|acquire 30 300 2 1 800 Night Ferries|ok|;{kept}\
         \n\
         \n1|1|6|1|20|100|0|;1|2|12|1|20|100|0|;\
-        \n{loans}"
+        \n{loans}\
+        \n\
+        \n"
     )?)
 }
 

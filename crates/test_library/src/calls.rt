@@ -84,7 +84,7 @@ pub fn desk_over<S: Alter + Drop>(store: Store<S>) -> Result<Desk<S>, Fault> {
 
 /// The next loan number, the number of rows in each other table, in schema order, and how many kept
 /// ones are patrons'.
-pub fn counts<S: Alter>(store: &mut Store<S>, alloc: Global) -> Result<[usize; 14], Fault> {
+pub fn counts<S: Alter>(store: &mut Store<S>, alloc: Global) -> Result<[usize; 16], Fault> {
     let all = store.tables(alloc)?;
     let kept = all.kept.as_slice();
     let by_patrons = kept.iter().filter(|it| it.caller != Owner::Desk).count();
@@ -101,6 +101,8 @@ pub fn counts<S: Alter>(store: &mut Store<S>, alloc: Global) -> Result<[usize; 1
         all.holds.as_slice().len(),
         all.transits.as_slice().len(),
         all.lines.as_slice().len(),
+        all.barcodes.as_slice().len(),
+        all.notes.as_slice().len(),
         kept.len(),
         by_patrons,
     ])

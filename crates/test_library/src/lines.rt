@@ -29,9 +29,9 @@ desk g13 acquire 11 100 1 1 2500|Rivers of the North -> ok
 desk g14 acquire 20 200 1 2 1200|Salt Roads -> ok
 desk g15 acquire 30 300 2 1 800|Night Ferries -> ok";
 
-/// The sixteen tables, in the order in which a new library gets them.
+/// The eighteen tables, in the order in which a new library gets them.
 const TABLES: &str =
-    "meta branches closed_days kinds rules patrons titles copies loans holds transits lines kept holds2 rules3 loans3";
+    "meta branches closed_days kinds rules patrons titles copies loans holds transits lines kept holds2 rules3 loans3 barcodes notes";
 
 /// A text's words, separated by single spaces, and the one after the bar whole.
 pub fn words_of(alloc: Global, text: &str) -> Result<Vec<String>, Fail> {

@@ -94,3 +94,11 @@ returns-in-MissingCopies g c = learns-on c.show_missing_copies.ensures (λ _ _ _
 pub returns-in-Loans : goal.returns-in-Loans
 returns-in-Loans g c = learns-on c.show_loans.ensures (λ _ _ _. tt) (λ H legal given reply is owner. is owner
     ∙ sym (ap (λ q. answer H owner (Ask q)) c.in-Loans.is))
+
+pub returns-in-FindBarcode : goal.returns-in-FindBarcode
+returns-in-FindBarcode g c = learns-on c.show_barcode.ensures (λ _ _ _. tt) (λ H legal given reply is owner. is owner
+    ∙ sym (ap (λ q. answer H owner (Ask q)) c.in-FindBarcode.is))
+
+pub returns-in-TillAt : goal.returns-in-TillAt
+returns-in-TillAt g c = learns-on c.show_till_at.ensures (λ _ _ _. tt) (λ H legal given reply is owner. is owner
+    ∙ sym (ap (λ q. answer H owner (Ask q)) c.in-TillAt.is))

@@ -4,8 +4,8 @@ use Rattle.desk.proofs.till.till_text.Goals as goal
 pub returns-in_err-sums : goal.returns-in_err-sums
 returns-in_err-sums g c = found-err _ c.from_residual.ensures c.in_err-sums.ensures
 
-pub returns-in_err-till_lines : goal.returns-in_err-till_lines
-returns-in_err-till_lines g c = found-stops c.in_ok-sums.ensures _ c.from_residual-in_err-till_lines.ensures
+pub returns-in_err-all_till_lines : goal.returns-in_err-all_till_lines
+returns-in_err-all_till_lines g c = found-stops c.in_ok-sums.ensures _ c.from_residual-in_err-all_till_lines.ensures
 
 pub returns : goal.returns
-returns g c = found-as c.in_ok-sums.ensures (λ P legal of. (_, of, c.in_ok-till_lines.ensures))
+returns g c = found-as c.in_ok-sums.ensures (λ P legal of. (_, of, c.in_ok-all_till_lines.ensures))
