@@ -112,6 +112,7 @@ module _ {S : Type 0} (g : Ghosts S) where
     rest_is = desk.rest_is;
     met = desk.met;
     is = desk.is;
+    closes = desk.closes;
     handles = desk.handles;
     shown = desk.shown;
   })

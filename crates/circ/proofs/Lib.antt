@@ -9,6 +9,7 @@ mod CountedRows
 mod SoundClaims
 mod SoundBindings
 mod SoundBalances
+mod SoundReferences
 mod WholeTables
 mod Audits
 mod Migrations

@@ -8,7 +8,7 @@ use Rattle.store.specs.Stops.{KeepsPicture, KeepsPictureAt, LeavesPicture}
 use Rattle.circ_tables.specs.Encoding.{HasPictureAt}
 use Rattle.circ_tables.specs.TableSchemas.{since_first}
 use Rattle.terms.specs.Limits.{InLimits}
-use Rattle.terms.specs.Schemas.{IsOfSchema, led_by, led_to_3}
+use Rattle.terms.specs.Schemas.{IsOfSchema, led_on, led_by}
 use Rattle.terms.specs.Texts.{fault_number}
 use Rattle.terms.specs.declared.fault.Fault.{Fault}
 use Rattle.terms.specs.declared.fault.Fault.TheVariants.{Stored}
@@ -18,7 +18,8 @@ use Rattle.model.specs.Picture.{picture}
 use Rattle.model.specs.Requests.{IsLegal}
 use Rattle.model.specs.Schemas.{IsLegalAt, picture_at}
 use Rattle.model.proofs.RowRanges.{legal-rows}
-use Rattle.model.proofs.Schemas.{stands-1, stands-2, within-schema-2, legal-2, of_schema_1, of_schema_2, led-1, led-2, limits1, limits2}
+use Rattle.model.proofs.Schemas.{stands-1, stands-2, stands-3, within-schema-2, within-schema-3, legal-2, legal-3}
+use Rattle.model.proofs.Schemas.{of_schema_1, of_schema_2, of_schema_3, led-1, led-2, led-3, limits1, limits2, limits3}
 use Rattle.desk.specs.Answering.{Shows}
 use Rattle.circ.specs.declared.lines.Exit.TheVariants.{Done, Faulted}
 use Rattle.circ.specs.Lines.{schema_line, fault_line}
@@ -29,48 +30,44 @@ newest = (omega arith, omega arith)
 
 -- A list that was legal with a schema is legal.
 legal-now : (n : ℕ) → IsKnown n → (H : History) → IsLegalAt n H → IsLegal H
-legal-now = since_first (λ n. (H : History) → IsLegalAt n H → IsLegal H) (λ H was. (stands-1 H was).legal) (λ H was. (stands-2 H was).legal) (λ H was. was)
+legal-now = since_first (λ n. (H : History) → IsLegalAt n H → IsLegal H) (λ H was. (stands-1 H was).legal) (λ H was. (stands-2 H was).legal)
+    (λ H was. (stands-3 H was).legal) (λ H was. was)
 
 -- Its tables are those of the schema, and keep to their limits.
 of-schema : (n : ℕ) → IsKnown n → (H : History) → IsOfSchema n (picture_at n H)
-of-schema = since_first (λ n. (H : History) → IsOfSchema n (picture_at n H)) of_schema_1 of_schema_2 (λ H. refl)
+of-schema = since_first (λ n. (H : History) → IsOfSchema n (picture_at n H)) of_schema_1 of_schema_2 of_schema_3 (λ H. refl)
 
 in-limits : (n : ℕ) → IsKnown n → (H : History) → InLimits (picture H) → InLimits (picture_at n H)
 in-limits = since_first (λ n. (H : History) → InLimits (picture H) → InLimits (picture_at n H))
-    (λ H legal. limits1 H (limits2 H legal)) limits2 (λ H legal. legal)
+    (λ H legal. limits1 H (limits2 H (limits3 H legal))) (λ H legal. limits2 H (limits3 H legal)) limits3 (λ H legal. legal)
 
 is-library : (n : ℕ) → IsKnown n → (s : State) (H : History) → ShowsAt n s H → IsLibrary n s.now (picture_at n H)
 is-library n known s H shows = (shows.tables.now, of-schema n known H, in-limits n known H (legal-rows H (legal-now n known H shows.legal) shows.forms))
 
--- After any steps they are those of the same list in the schema that these lead to, with which it was legal too.
+-- After a step they are those of the same list in the next schema, with which it was legal too.
+led-once : (n : ℕ) → IsKnown n → n < SCHEMA → (H : History) → IsLegalAt n H → (led_on n (picture_at n H) ≡ picture_at (suc n) H) × IsLegalAt (suc n) H
+led-once = since_first (λ n. n < SCHEMA → (H : History) → IsLegalAt n H → (led_on n (picture_at n H) ≡ picture_at (suc n) H) × IsLegalAt (suc n) H)
+    (λ older H legal. let is = stands-1 H legal in (led-1 H is.of_schema, legal-2 H (within-schema-2 H is.of_schema) is.legal))
+    (λ older H legal. let is = stands-2 H legal in (led-2 H is.of_schema, legal-3 H (within-schema-3 H is.of_schema) is.legal))
+    (λ older H legal. let is = stands-3 H legal in (led-3 H is.of_schema, is.legal))
+    (λ older. absurd (omega (arith, older)))
+
+-- After any steps they are those of the schema that these lead to.
 led-by : (n : ℕ) → IsKnown n → (steps : ℕ) → n + steps ≤ SCHEMA → (H : History) → IsLegalAt n H
     → (led_by steps n (picture_at n H) ≡ picture_at (n + steps) H) × IsLegalAt (n + steps) H
-led-by = since_first (λ n. (steps : ℕ) → n + steps ≤ SCHEMA → (H : History) → IsLegalAt n H
-    → (led_by steps n (picture_at n H) ≡ picture_at (n + steps) H) × IsLegalAt (n + steps) H) first second third
-  where
-    first : (steps : ℕ) → 1 + steps ≤ SCHEMA → (H : History) → IsLegalAt 1 H → (led_by steps 1 (picture_at 1 H) ≡ picture_at (1 + steps) H)
-        × IsLegalAt (1 + steps) H
-    first zero few H legal = (refl, legal)
-    first (suc zero) few H legal = let is = stands-1 H legal in (led-1 H is.of_schema, legal-2 H (within-schema-2 H is.of_schema) is.legal)
-    first (suc (suc zero)) few H legal = let is = stands-1 H legal in (ap led_to_3 (led-1 H is.of_schema) ∙ led-2 H (within-schema-2 H is.of_schema), is.legal)
-    first (suc (suc (suc steps))) few H legal = absurd (omega (arith, few))
-
-    second : (steps : ℕ) → 2 + steps ≤ SCHEMA → (H : History) → IsLegalAt 2 H → (led_by steps 2 (picture_at 2 H) ≡ picture_at (2 + steps) H)
-        × IsLegalAt (2 + steps) H
-    second zero few H legal = (refl, legal)
-    second (suc zero) few H legal = let is = stands-2 H legal in (led-2 H is.of_schema, is.legal)
-    second (suc (suc steps)) few H legal = absurd (omega (arith, few))
-
-    third : (steps : ℕ) → 3 + steps ≤ SCHEMA → (H : History) → IsLegalAt 3 H → (led_by steps 3 (picture_at 3 H) ≡ picture_at (3 + steps) H)
-        × IsLegalAt (3 + steps) H
-    third zero few H legal = (refl, legal)
-    third (suc steps) few H legal = absurd (omega (arith, few))
+led-by n known zero few H legal =
+    let here : n ≡ n + zero = omega arith in subst (λ m. (picture_at n H ≡ picture_at m H) × IsLegalAt m H) here (refl, legal)
+led-by n known (suc steps) few H legal =
+    let one = led-once n known (omega (arith, few)) H legal in
+    let rest = led-by (suc n) (omega arith, omega (arith, few)) steps (omega (arith, few)) H one.1 in
+    let there : suc n + steps ≡ n + suc steps = omega arith in
+    subst (λ m. (led_by (suc steps) n (picture_at n H) ≡ picture_at m H) × IsLegalAt m H) there (ap (led_by steps (suc n)) one.0 ∙ rest.0, rest.1)
 
 -- After all of them they are those of the newest.
 led-up : (n : ℕ) → IsKnown n → (H : History) → IsLegalAt n H → led_by (SCHEMA - n) n (picture_at n H) ≡ picture H
-led-up = since_first (λ n. (H : History) → IsLegalAt n H → led_by (SCHEMA - n) n (picture_at n H) ≡ picture H)
-    (λ H legal. (led-by 1 (omega arith, omega arith) 2 (omega arith) H legal).0)
-    (λ H legal. (led-by 2 (omega arith, omega arith) 1 (omega arith) H legal).0) (λ H legal. refl)
+led-up n known H legal =
+    let all : n + (SCHEMA - n) ≡ SCHEMA = omega (arith, known.1) in
+    subst (λ m. led_by (SCHEMA - n) n (picture_at n H) ≡ picture_at m H) all (led-by n known (SCHEMA - n) (omega (arith, all)) H legal).0
 
 -- What shows a list in the newest schema shows it as one of that schema.
 at-newest : (s : State) (H : History) → Shows s H → ShowsAt SCHEMA s H

@@ -1,7 +1,7 @@
--- In a legal history's tables each patron owes the charges less payments and waivers.
+-- In a legal history's tables each patron owes the fines, prices and charges less payments and waivers.
 use Rattle.std.proofs.Common.{◌≡◌, ℕ, zero, suc, ◌+◌, ◌<◌, ◌≤◌, ◌==◌, ◌⊎◌, inl, inr, Bool, true, false, cond, List, [], ◌∷◌, map, refl, sym}
 use Rattle.std.proofs.Common.{◌∙◌, ap, subst, arith}
-use Rattle.std.specs.Prelude.{Some, None, option_map, filter, sum_by}
+use Rattle.std.specs.Prelude.{Option, Some, None, option_map, filter, sum_by}
 use Rattle.std.specs.List.{Contains}
 use Rattle.std.proofs.lemmas.List.Sums.{sum_by-cons}
 use Rattle.store.specs.Lists.{AreAuditTables}
@@ -9,10 +9,10 @@ use Rattle.terms.specs.Orders.{Rise}
 use Rattle.terms.specs.declared.row.LineRow.{LineRow}
 use Rattle.terms.specs.declared.row.PatronRow.{PatronRow}
 use Rattle.terms.specs.declared.row.Sort.{Sort}
-use Rattle.terms.specs.declared.row.Sort.TheVariants.{Fine, Price, Payment, Waiver}
+use Rattle.terms.specs.declared.row.Sort.TheVariants.{Fine, Price, Payment, Waiver, Charge}
 use Rattle.terms.specs.declared.tables.Tables.{Tables}
 use Rattle.model.specs.History.{History}
-use Rattle.model.specs.Accounts.{Line, lines, account, charge as charge_of, credit as credit_of, charges, credits, owed}
+use Rattle.model.specs.Accounts.{Line, Note, lines, account, charge as charge_of, credit as credit_of, charges, credits, owed}
 use Rattle.model.specs.Picture.{picture, nth_line, line_columns, patron_columns}
 use Rattle.model.specs.Requests.{IsLegal}
 use Rattle.model.proofs.Balance.{balance}
@@ -20,28 +20,31 @@ use Rattle.model.proofs.ClaimsLaw.{map-some}
 use Rattle.circ_audit.specs.Rows.{is_charge, charge, credit}
 use Rattle.circ_audit.specs.Sound.{IsBalanced, charges_of, credits_of}
 use Rattle.desk.proofs.Contained.{in-head, in-tail, in-cases, in-none, above-first}
+use Rattle.desk.specs.Labelling.{note_at}
 use Rattle.desk.proofs.LineRows.{line_in, row_at, nth-zero}
+use Rattle.desk.proofs.TillLines.{line-own}
 use Rattle.circ.proofs.CountedRows.{all-there}
 
 -- The rows are those of these lines, which are numbered from above k.
-record AreLinesFrom (k : ℕ) (xs : List Line) (rows : List LineRow) : Type 0 where
-  sound : (r : LineRow) → Contains rows r → (n : ℕ) × (r.line ≡ k + n) × (nth_line xs n ≡ Some (line_in r))
+record AreLinesFrom (notes : ℕ → Option Note) (k : ℕ) (xs : List Line) (rows : List LineRow) : Type 0 where
+  sound : (r : LineRow) → Contains rows r → (n : ℕ) × (r.line ≡ k + n) × (nth_line xs n ≡ Some (line_in notes r))
   whole : (n : ℕ) (x : Line) → nth_line xs n ≡ Some x → Contains rows (row_at (k + n) x)
   rise : Rise (λ r. r.line) rows
 
-module _ (k : ℕ) (x : Line) (xs : List Line) where
-  later : (r : LineRow) → suc k < r.line → (n : ℕ) → r.line ≡ k + n → nth_line (x ∷ xs) n ≡ Some (line_in r) → (m : ℕ)
-      × (r.line ≡ suc k + m) × (nth_line xs m ≡ Some (line_in r))
+module _ (notes : ℕ → Option Note) (k : ℕ) (x : Line) (xs : List Line) where
+  later : (r : LineRow) → suc k < r.line → (n : ℕ) → r.line ≡ k + n → nth_line (x ∷ xs) n ≡ Some (line_in notes r) → (m : ℕ)
+      × (r.line ≡ suc k + m) × (nth_line xs m ≡ Some (line_in notes r))
   later r lt zero at e = let never : ⊥ = cc in absurd never
   later r lt (suc zero) at e = absurd (omega (arith, at, lt))
   later r lt (suc (suc n)) at e = (suc n, omega (arith, at), e)
 
   -- The row of the first line comes first, and the other rows are those of the other lines.
-  first-line : (rows : List LineRow) → AreLinesFrom k (x ∷ xs) rows → (rest : List LineRow) × (rows ≡ row_at (k + 1) x ∷ rest) × AreLinesFrom (suc k) xs rest
+  first-line : (rows : List LineRow) → AreLinesFrom notes k (x ∷ xs) rows → (rest : List LineRow)
+      × (map (line_in notes) rows ≡ x ∷ map (line_in notes) rest) × AreLinesFrom notes (suc k) xs rest
   first-line [] are = absurd (in-none _ (are.whole 1 x refl))
-  first-line (r ∷ rest) are = (rest, ap (λ (q : LineRow). q ∷ rest) first, record { sound = sound; whole = whole; rise = are.rise.1 })
+  first-line (r ∷ rest) are = (rest, ap (λ (y : Line). y ∷ map (line_in notes) rest) own, record { sound = sound; whole = whole; rise = are.rise.1 })
     where
-      least : (n : ℕ) → r.line ≡ k + n → nth_line (x ∷ xs) n ≡ Some (line_in r) → suc k ≤ r.line
+      least : (n : ℕ) → r.line ≡ k + n → nth_line (x ∷ xs) n ≡ Some (line_in notes r) → suc k ≤ r.line
       least zero at e = let never : ⊥ = cc in absurd never
       least (suc n) at e = omega (arith, at)
 
@@ -61,7 +64,15 @@ module _ (k : ℕ) (x : Line) (xs : List Line) where
       number : r.line ≡ k + 1
       number = ap (λ (q : LineRow). q.line) first
 
-      sound : (q : LineRow) → Contains rest q → (m : ℕ) × (q.line ≡ suc k + m) × (nth_line xs m ≡ Some (line_in q))
+      own : line_in notes r ≡ x
+      own = let s = are.sound r (in-head r rest) in at s.0 s.1 s.2
+        where
+          at : (n : ℕ) → r.line ≡ k + n → nth_line (x ∷ xs) n ≡ Some (line_in notes r) → line_in notes r ≡ x
+          at zero e is = let never : ⊥ = cc in absurd never
+          at (suc zero) e is = let same : x ≡ line_in notes r = cc in sym same
+          at (suc (suc n)) e is = absurd (omega (arith, e, number))
+
+      sound : (q : LineRow) → Contains rest q → (m : ℕ) × (q.line ≡ suc k + m) × (nth_line xs m ≡ Some (line_in notes q))
       sound q at =
           let s = are.sound q (in-tail r q rest at) in
           let lt : r.line < q.line = above q at in
@@ -76,20 +87,20 @@ module _ (k : ℕ) (x : Line) (xs : List Line) where
           go (inr more) = let same : k + suc (suc n) ≡ suc k + suc n = omega arith in subst (λ (m : ℕ). Contains rest (row_at m y)) same more
 
 -- The rows are the lines, in their order.
-listed-from : (k : ℕ) (xs : List Line) (rows : List LineRow) → AreLinesFrom k xs rows → map line_in rows ≡ xs
-listed-from k [] [] are = refl
-listed-from k [] (r ∷ rows) are = let s = are.sound r (in-head r rows) in let e : None ≡ Some (line_in r) = s.2 in let never : ⊥ = cc in absurd never
-listed-from k (x ∷ xs) rows are =
-    let f = first-line k x xs rows are in
-    ap (map line_in) f.1 ∙ ap (λ (ys : List Line). x ∷ ys) (listed-from (suc k) xs f.0 f.2)
+listed-from : (notes : ℕ → Option Note) (k : ℕ) (xs : List Line) (rows : List LineRow) → AreLinesFrom notes k xs rows → map (line_in notes) rows ≡ xs
+listed-from notes k [] [] are = refl
+listed-from notes k [] (r ∷ rows) are =
+    let s = are.sound r (in-head r rows) in let e : None ≡ Some (line_in notes r) = s.2 in let never : ⊥ = cc in absurd never
+listed-from notes k (x ∷ xs) rows are =
+    let f = first-line notes k x xs rows are in f.1 ∙ ap (λ (ys : List Line). x ∷ ys) (listed-from notes (suc k) xs f.0 f.2)
 
-listed : (H : History) (rows : Tables) → AreAuditTables (picture H) rows → map line_in rows.lines ≡ lines H
-listed H rows are = listed-from zero (lines H) rows.lines (record { sound = sound; whole = whole; rise = are.lines.rise })
+listed : (H : History) (rows : Tables) → AreAuditTables (picture H) rows → map (line_in (note_at H)) rows.lines ≡ lines H
+listed H rows are = listed-from (note_at H) zero (lines H) rows.lines (record { sound = sound; whole = whole; rise = are.lines.rise })
   where
-    sound : (r : LineRow) → Contains rows.lines r → (n : ℕ) × (r.line ≡ zero + n) × (nth_line (lines H) n ≡ Some (line_in r))
+    sound : (r : LineRow) → Contains rows.lines r → (n : ℕ) × (r.line ≡ zero + n) × (nth_line (lines H) n ≡ Some (line_in (note_at H) r))
     sound r at =
         let m = map-some (line_columns H r.line) (nth_line (lines H) r.line) r (are.lines.sound r at).0 in
-        (r.line, omega arith, m.1 ∙ ap (λ (p : LineRow). Some (line_in p)) m.2)
+        (r.line, omega arith, m.1 ∙ ap Some (line-own H r.line m.0 m.1) ∙ ap (λ (p : LineRow). Some (line_in (note_at H) p)) m.2)
 
     whole : (n : ℕ) (x : Line) → nth_line (lines H) n ≡ Some x → Contains rows.lines (row_at (zero + n) x)
     whole n x e =
@@ -98,13 +109,14 @@ listed H rows are = listed-from zero (lines H) rows.lines (record { sound = soun
 
 -- ---- the sums
 
-module _ (p : ℕ) where
+module _ (notes : ℕ → Option Note) (p : ℕ) where
   charge-is : (r : LineRow) → charge r p ≡ cond (r.patron == p) (charge_of r.sort r.amount) 0
   charge-is r = go r.sort (r.patron == p)
     where
       go : (s : Sort) (b : Bool) → cond (is_charge s) (cond b r.amount 0) 0 ≡ cond b (charge_of s r.amount) 0
       go Fine b = refl
       go Price b = refl
+      go Charge b = refl
       go Payment true = refl
       go Payment false = refl
       go Waiver true = refl
@@ -118,28 +130,30 @@ module _ (p : ℕ) where
       go Fine false = refl
       go Price true = refl
       go Price false = refl
+      go Charge true = refl
+      go Charge false = refl
       go Payment b = refl
       go Waiver b = refl
 
   -- The sum over the rows is that over the patron's lines.
-  summed : (f : LineRow → ℕ) (g : Line → ℕ) → ((r : LineRow) → f r ≡ cond (r.patron == p) (g (line_in r)) 0) → (rows : List LineRow)
-      → sum_by f rows ≡ sum_by g (filter (λ x. x.patron == p) (map line_in rows))
+  summed : (f : LineRow → ℕ) (g : Line → ℕ) → ((r : LineRow) → f r ≡ cond (r.patron == p) (g (line_in notes r)) 0) → (rows : List LineRow)
+      → sum_by f rows ≡ sum_by g (filter (λ x. x.patron == p) (map (line_in notes) rows))
   summed f g is [] = refl
   summed f g is (r ∷ rows) = sum_by-cons f r rows ∙ ap (λ n. n + sum_by f rows) (is r) ∙ go (summed f g is rows) (r.patron == p)
     where
-      go : sum_by f rows ≡ sum_by g (filter (λ x. x.patron == p) (map line_in rows)) → (b : Bool)
-          → cond b (g (line_in r)) 0 + sum_by f rows ≡ sum_by g
-          (cond b (line_in r ∷ filter (λ x. x.patron == p) (map line_in rows)) (filter (λ x. x.patron == p) (map line_in rows)))
-      go ih true = ap (λ n. g (line_in r) + n) ih ∙ sym (sum_by-cons g (line_in r) (filter (λ x. x.patron == p) (map line_in rows)))
+      go : sum_by f rows ≡ sum_by g (filter (λ x. x.patron == p) (map (line_in notes) rows)) → (b : Bool)
+          → cond b (g (line_in notes r)) 0 + sum_by f rows ≡ sum_by g
+          (cond b (line_in notes r ∷ filter (λ x. x.patron == p) (map (line_in notes) rows)) (filter (λ x. x.patron == p) (map (line_in notes) rows)))
+      go ih true = ap (λ n. g (line_in notes r) + n) ih ∙ sym (sum_by-cons g (line_in notes r) (filter (λ x. x.patron == p) (map (line_in notes) rows)))
       go ih false = let e = ih in omega (arith, e)
 
 module _ (H : History) (rows : Tables) (legal : IsLegal H) (are : AreAuditTables (picture H) rows) (p : ℕ) where
   charged : charges_of rows p ≡ charges (account H p)
-  charged = summed p (λ r. charge r p) (λ x. charge_of x.sort x.amount) (charge-is p) rows.lines
+  charged = summed (note_at H) p (λ r. charge r p) (λ x. charge_of x.sort x.amount) (charge-is (note_at H) p) rows.lines
       ∙ ap (λ (xs : List Line). sum_by (λ x. charge_of x.sort x.amount) (filter (λ x. x.patron == p) xs)) (listed H rows are)
 
   credited : credits_of rows p ≡ credits (account H p)
-  credited = summed p (λ r. credit r p) (λ x. credit_of x.sort x.amount) (credit-is p) rows.lines
+  credited = summed (note_at H) p (λ r. credit r p) (λ x. credit_of x.sort x.amount) (credit-is (note_at H) p) rows.lines
       ∙ ap (λ (xs : List Line). sum_by (λ x. credit_of x.sort x.amount) (filter (λ x. x.patron == p) xs)) (listed H rows are)
 
   pub balanced : IsBalanced rows p

@@ -1,142 +1,154 @@
 -- All rows of the tables keep or break a law just as the rows that it concerns.
-use Rattle.std.proofs.Common.{◌≡◌, ℕ, ◌+◌, ◌≤◌, Bool, true, false, cond, List, [], ◌∷◌, refl, sym, ◌∙◌, ap, subst, arith}
-use Rattle.std.specs.Prelude.{Some, None, is_none, count_by, sum_by, filter, All}
+use Rattle.std.proofs.Common.{◌≡◌, ℕ, ◌<◌, List, sym, ◌∙◌, subst}
+use Rattle.circ_tables.specs.Barcodes.{barcodes}
+use Rattle.circ_tables.specs.Cells.{thing_sort, thing_number}
+use Rattle.circ_tables.specs.ClosedDays.{closed_days}
+use Rattle.circ_tables.specs.Rules.{rules}
 use Rattle.store.specs.Lists.{AllPass, AreTables, AreAuditTables}
-use Rattle.store.proofs.OneList.{one_rows, tested_rows}
-use Rattle.store.proofs.BatchedRows.{open_pass}
+use Rattle.store.proofs.OneList.{one_rows, one_all, pair_never}
+use Rattle.terms.specs.Orders.{IsPairBefore}
 use Rattle.terms.specs.Pictures.{Picture}
-use Rattle.terms.specs.declared.row.CopyRow.{CopyRow}
-use Rattle.terms.specs.declared.row.HoldRow.{HoldRow}
-use Rattle.terms.specs.declared.row.LineRow.{LineRow}
-use Rattle.terms.specs.declared.row.LoanRow.{LoanRow}
-use Rattle.terms.specs.declared.row.PatronRow.{PatronRow}
-use Rattle.terms.specs.declared.row.TransitRow.{TransitRow}
+use Rattle.terms.specs.declared.row.KeptRow.{KeptRow}
 use Rattle.terms.specs.declared.tables.Tables.{Tables}
 use Rattle.circ_audit.specs.declared.auditing.Finding.{Finding}
-use Rattle.circ_audit.specs.declared.auditing.Finding.TheVariants.{Claims, Binding, Balance}
-use Rattle.circ_audit.specs.Rows.{names, lent_copy, shelved_copy, travelling_copy, absent_copy, hold_row, is_fit, serves, charge, credit}
-use Rattle.circ.proofs.CountedRows.{weight, counted-cons}
-use Rattle.circ_audit.specs.Sound.{claims_on, IsClaimedOnce, IsRightlyBound, IsBalanced, IsSound, IsLeastBroken, IsFirstBroken}
+use Rattle.circ_audit.specs.declared.auditing.Finding.TheVariants.{Claims, Binding, Balance, Reference, Numbers}
+use Rattle.circ_audit.specs.Barcodes.{AreDistinct, IsFirstDoubled}
+use Rattle.circ_audit.specs.Sound.{IsSound, IsFirstBroken, IsLeastBroken, IsFirstAmong, IsClaimedOnce, IsRightlyBound, IsBalanced}
+use Rattle.circ_audit.specs.Numbers.{IsNumbered, place_of_series}
+use Rattle.circ_audit.specs.References.{IsReferred, place_of_table}
+use Rattle.circ_audit.specs.declared.numbers.Series.{Series}
+use Rattle.circ_audit.specs.declared.numbers.Series.TheVariants as series
+use Rattle.circ_audit.specs.declared.references.Table.{Table}
+use Rattle.circ_audit.specs.declared.references.Table.TheVariants as table
+use Rattle.circ.specs.Auditing.{AreSound, IsDoubled}
 
--- ---- a loan that ended claims nothing
+-- The tables with other rows of `kept`, of which no law speaks.
+abbrev with_kept : Tables → List KeptRow → Tables
+with_kept t kept = record t { kept = kept }
 
--- The loan claims the copy.
-abbrev lends : ℕ → LoanRow → Bool
-lends copy r = names (lent_copy r) copy
+-- The law holds for the same numbers.
+least_with : {Law Other : ℕ → Type 0} → ((n : ℕ) → Law n → Other n) → ((n : ℕ) → Other n → Law n) → (n : ℕ) → IsLeastBroken Law n → IsLeastBroken Other n
+least_with to from n least = record { broken = λ other. least.broken (from n other); below = λ m low. to m (least.below m low) }
 
-open_alone : (rows : List LoanRow) (copy : ℕ) → count_by (lends copy) (filter (λ r. is_none r.ended) rows) ≡ count_by (lends copy) rows
-open_alone [] copy = refl
-open_alone (x ∷ rows) copy = go (is_none x.ended) refl (open_alone rows copy)
-  where
-    go : (b : Bool) → is_none x.ended ≡ b → count_by (lends copy) (filter (λ r. is_none r.ended) rows) ≡ count_by (lends copy) rows
-        → count_by (lends copy) (cond b (x ∷ filter (λ r. is_none r.ended) rows) (filter (λ r. is_none r.ended) rows)) ≡ count_by (lends copy) (x ∷ rows)
-    go true is rest =
-        let all : count_by (lends copy) (x ∷ rows) ≡ weight (lends copy x) + count_by (lends copy) rows = counted-cons (lends copy) x rows in
-        let some : count_by (lends copy) (x ∷ filter (λ r. is_none r.ended) rows) ≡ weight (lends copy x) + count_by (lends copy)
-        (filter (λ r. is_none r.ended) rows) = counted-cons (lends copy) x (filter (λ r. is_none r.ended) rows) in
-        omega (arith, all, some, rest)
-    go false is rest =
-        let all : count_by (lends copy) (x ∷ rows) ≡ weight (lends copy x) + count_by (lends copy) rows = counted-cons (lends copy) x rows in
-        let none : weight (lends copy x) ≡ 0 = ap (λ (b : Bool). weight (names (cond b (Some x.copy) None) copy)) is in
-        omega (arith, all, none, rest)
+among_with : {A : Type 0} (place_of : A → ℕ) {Law Other : A → ℕ → Type 0} → ((a : A) (n : ℕ) → Law a n → Other a n) → ((a : A) (n : ℕ) → Other a n → Law a n)
+    → (a : A) (n : ℕ) → IsFirstAmong place_of Law a n → IsFirstAmong place_of Other a n
+among_with place_of to from a n first = record { before = λ b low m. to b m (first.before b low m); least = least_with (to a) (from a) n first.least }
 
--- The rows of which the laws speak are the same, but for loans that claim nothing.
-pub record AreLike (a b : Tables) : Type 0 where
-  pub patrons : a.patrons ≡ b.patrons
-  pub copies : a.copies ≡ b.copies
-  pub holds : a.holds ≡ b.holds
-  pub transits : a.transits ≡ b.transits
-  pub lines : a.lines ≡ b.lines
-  pub claims : (copy : ℕ) → claims_on a copy ≡ claims_on b copy
+module _ (t : Tables) (kept : List KeptRow) where
+  claimed_with : (copy : ℕ) → IsClaimedOnce t copy → IsClaimedOnce (with_kept t kept) copy
+  claimed_with copy is = is
+
+  claimed_from : (copy : ℕ) → IsClaimedOnce (with_kept t kept) copy → IsClaimedOnce t copy
+  claimed_from copy is = is
+
+  bound_with : (hold : ℕ) → IsRightlyBound t hold → IsRightlyBound (with_kept t kept) hold
+  bound_with hold is = record { fit = is.fit; served = is.served; once = is.once }
+
+  bound_from : (hold : ℕ) → IsRightlyBound (with_kept t kept) hold → IsRightlyBound t hold
+  bound_from hold is = record { fit = is.fit; served = is.served; once = is.once }
+
+  balanced_with : (patron : ℕ) → IsBalanced t patron → IsBalanced (with_kept t kept) patron
+  balanced_with patron is = is
+
+  balanced_from : (patron : ℕ) → IsBalanced (with_kept t kept) patron → IsBalanced t patron
+  balanced_from patron is = is
+
+  referred_with : (s : Table) (n : ℕ) → IsReferred t s n → IsReferred (with_kept t kept) s n
+  referred_with table.ClosedDays n is = is
+  referred_with table.Rules n is = is
+  referred_with table.Patrons n is = is
+  referred_with table.Copies n is = is
+  referred_with table.Loans n is = is
+  referred_with table.Holds n is = is
+  referred_with table.Transits n is = is
+  referred_with table.Lines n is = is
+  referred_with table.Barcodes n is = is
+  referred_with table.Notes n is = is
+
+  referred_from : (s : Table) (n : ℕ) → IsReferred (with_kept t kept) s n → IsReferred t s n
+  referred_from table.ClosedDays n is = is
+  referred_from table.Rules n is = is
+  referred_from table.Patrons n is = is
+  referred_from table.Copies n is = is
+  referred_from table.Loans n is = is
+  referred_from table.Holds n is = is
+  referred_from table.Transits n is = is
+  referred_from table.Lines n is = is
+  referred_from table.Barcodes n is = is
+  referred_from table.Notes n is = is
+
+  numbered_with : (s : Series) (n : ℕ) → IsNumbered t s n → IsNumbered (with_kept t kept) s n
+  numbered_with series.Loans n is = is
+  numbered_with series.Holds n is = is
+  numbered_with series.Lines n is = is
+
+  numbered_from : (s : Series) (n : ℕ) → IsNumbered (with_kept t kept) s n → IsNumbered t s n
+  numbered_from series.Loans n is = is
+  numbered_from series.Holds n is = is
+  numbered_from series.Lines n is = is
+
+  sound_with : IsSound t → IsSound (with_kept t kept)
+  sound_with sound = record {
+    claims = sound.claims;
+    bindings = λ hold. bound_with hold (sound.bindings hold);
+    balance = sound.balance;
+    references = λ s n. referred_with s n (sound.references s n);
+    numbers = λ s n. numbered_with s n (sound.numbers s n);
+  }
+
+  broken_with : (finding : Finding) → IsFirstBroken t finding → IsFirstBroken (with_kept t kept) finding
+  broken_with (Claims copy) first = least_with claimed_with claimed_from copy first
+  broken_with (Binding hold) first = (first.0, least_with bound_with bound_from hold first.1)
+  broken_with (Balance patron) first = (first.0, λ hold. bound_with hold (first.1 hold), least_with balanced_with balanced_from patron first.2)
+  broken_with (Reference s n) first = (
+    first.0,
+    λ hold. bound_with hold (first.1 hold),
+    first.2,
+    among_with place_of_table referred_with referred_from s n first.3,
+  )
+  broken_with (Numbers s n) first = (
+    first.0,
+    λ hold. bound_with hold (first.1 hold),
+    first.2,
+    λ table m. referred_with table m (first.3 table m),
+    among_with place_of_series numbered_with numbered_from s n first.4,
+  )
 
 module _ (P : Picture) (all some : Tables) (whole : AreTables P all) (are : AreAuditTables P some) where
-  copies_are : some.copies ≡ all.copies
-  copies_are = one_rows (λ r. r.copy) P.copies AllPass some.copies all.copies are.copies whole.copies
-
-  holds_are : some.holds ≡ all.holds
-  holds_are = one_rows (λ r. r.hold) P.holds AllPass some.holds all.holds are.holds whole.holds
-
-  transits_are : some.transits ≡ all.transits
-  transits_are = one_rows (λ r. r.copy) P.transits AllPass some.transits all.transits are.transits whole.transits
-
-  lines_are : some.lines ≡ all.lines
-  lines_are = one_rows (λ r. r.line) P.lines AllPass some.lines all.lines are.lines whole.lines
-
-  patrons_are : some.patrons ≡ all.patrons
-  patrons_are = one_rows (λ r. r.patron) P.patrons AllPass some.patrons all.patrons are.patrons whole.patrons
-
-  abbrev open_loans : List LoanRow
-  open_loans = filter (λ r. is_none r.ended) all.loans
-
-  loans_are : some.loans ≡ open_loans
-  loans_are = one_rows (λ r. r.loan) P.loans (λ r. r.ended ≡ None) some.loans open_loans are.loans
-      (open_pass P.loans open_loans (tested_rows (λ r. r.loan) P.loans (λ r. is_none r.ended) all.loans whole.loans))
-
-  loans_claim : (copy : ℕ) → count_by (λ r. names (lent_copy r) copy) some.loans ≡ count_by (λ r. names (lent_copy r) copy) all.loans
-  loans_claim copy = ap (count_by (λ r. names (lent_copy r) copy)) loans_are ∙ open_alone all.loans copy
-
-  -- The laws speak of the same rows.
-  pub like_whole : AreLike some all
-  like_whole = record {
-    patrons = patrons_are;
-    copies = copies_are;
-    holds = holds_are;
-    transits = transits_are;
-    lines = lines_are;
-    claims = λ copy i. loans_claim copy i + count_by (λ r. names (shelved_copy r) copy) (holds_are i) + count_by
-        (λ r. names (travelling_copy r) copy) (transits_are i) + count_by (λ r. names (absent_copy r) copy) (copies_are i);
+  rows_are : with_kept some all.kept ≡ all
+  rows_are = λ i. record {
+    meta = (are.meta ∙ sym whole.meta) i;
+    branches = one_rows (λ r. r.branch) P.branches AllPass some.branches all.branches are.branches whole.branches i;
+    closed_days = one_all (λ r s. IsPairBefore (r.branch, r.day) (s.branch, s.day)) (λ r s. pair_never (r.branch, r.day) (s.branch, s.day)) closed_days
+        (λ r. (r.branch, r.day)) P some.closed_days all.closed_days are.closed_days whole.closed_days i;
+    kinds = one_rows (λ r. r.kind) P.kinds AllPass some.kinds all.kinds are.kinds whole.kinds i;
+    rules = one_all (λ r s. IsPairBefore (r.kind, r.copy_kind) (s.kind, s.copy_kind)) (λ r s. pair_never (r.kind, r.copy_kind) (s.kind, s.copy_kind))
+        rules (λ r. (r.kind, r.copy_kind)) P some.rules all.rules are.rules whole.rules i;
+    patrons = one_rows (λ r. r.patron) P.patrons AllPass some.patrons all.patrons are.patrons whole.patrons i;
+    titles = one_rows (λ r. r.title) P.titles AllPass some.titles all.titles are.titles whole.titles i;
+    copies = one_rows (λ r. r.copy) P.copies AllPass some.copies all.copies are.copies whole.copies i;
+    loans = one_rows (λ r. r.loan) P.loans AllPass some.loans all.loans are.loans whole.loans i;
+    holds = one_rows (λ r. r.hold) P.holds AllPass some.holds all.holds are.holds whole.holds i;
+    transits = one_rows (λ r. r.copy) P.transits AllPass some.transits all.transits are.transits whole.transits i;
+    lines = one_rows (λ r. r.line) P.lines AllPass some.lines all.lines are.lines whole.lines i;
+    kept = all.kept;
+    barcodes = one_all (λ r s. IsPairBefore (thing_sort r.thing, thing_number r.thing) (thing_sort s.thing, thing_number s.thing))
+        (λ r s. pair_never (thing_sort r.thing, thing_number r.thing) (thing_sort s.thing, thing_number s.thing)) barcodes (λ r. r.thing) P
+        some.barcodes all.barcodes are.barcodes whole.barcodes i;
+    notes = one_rows (λ r. r.line) P.notes AllPass some.notes all.notes are.notes whole.notes i;
   }
 
--- ---- so each law is one
-
-like_back : (a b : Tables) → AreLike a b → AreLike b a
-like_back a b like = record {
-  patrons = sym like.patrons;
-  copies = sym like.copies;
-  holds = sym like.holds;
-  transits = sym like.transits;
-  lines = sym like.lines;
-  claims = λ copy. sym (like.claims copy);
-}
-
-module _ (a b : Tables) (like : AreLike a b) where
-  claimed_as : (copy : ℕ) → IsClaimedOnce a copy → IsClaimedOnce b copy
-  claimed_as copy = subst (λ (n : ℕ). n ≤ 1) (like.claims copy)
-
-  bound_as : (hold : ℕ) → IsRightlyBound a hold → IsRightlyBound b hold
-  bound_as hold bound = record {
-    fit = subst (λ (t : List CopyRow × List HoldRow). All (λ r. r.hold ≡ hold → is_fit t.0 r ≡ true) t.1) (λ i. (like.copies i, like.holds i)) bound.fit;
-    served = subst (λ (t : List CopyRow × (List HoldRow × List TransitRow)). All
-        (λ r. r.hold ≡ Some hold → serves t.0 r (hold_row t.1.0 hold) ≡ true) t.1.1)
-        (λ i. (like.copies i, (like.holds i, like.transits i))) bound.served;
-    once = subst (λ (rows : List TransitRow). count_by (λ r. names r.hold hold) rows ≤ 1) like.transits bound.once;
-  }
-
-  balanced_as : (patron : ℕ) → IsBalanced a patron → IsBalanced b patron
-  balanced_as patron = subst (λ (t : List PatronRow × List LineRow). All
-      (λ r. r.patron ≡ patron → r.owed + sum_by (λ l. credit l patron) t.1 ≡ sum_by (λ l. charge l patron) t.1) t.0)
-      (λ i. (like.patrons i, like.lines i))
-
-  pub sound_as : IsSound a → IsSound b
+  pub sound_as : AreSound some → AreSound all
   sound_as sound = record {
-    claims = λ copy. claimed_as copy (sound.claims copy);
-    bindings = λ hold. bound_as hold (sound.bindings hold);
-    balance = λ patron. balanced_as patron (sound.balance patron);
+    laws = subst IsSound rows_are (sound_with some all.kept sound.laws);
+    barcodes = subst (λ t. AreDistinct t.barcodes) rows_are sound.barcodes;
   }
 
--- The least number that breaks a law breaks one that says the same.
-least_as : (Law Same : ℕ → Type 0) (n : ℕ) → ((m : ℕ) → Law m → Same m) → (Same n → Law n) → IsLeastBroken Law n → IsLeastBroken Same n
-least_as Law Same n to from least = record { broken = λ law. least.broken (from law); below = λ m less. to m (least.below m less) }
+  pub doubled_as : (number : ℕ) → IsDoubled number some → IsDoubled number all
+  doubled_as number is = record {
+    laws = subst IsSound rows_are (sound_with some all.kept is.laws);
+    doubled = subst (λ t. IsFirstDoubled t.barcodes number) rows_are is.doubled;
+  }
 
-pub broken_as : (a b : Tables) → AreLike a b → (finding : Finding) → IsFirstBroken a finding → IsFirstBroken b finding
-broken_as a b like (Claims copy) first =
-    least_as (IsClaimedOnce a) (IsClaimedOnce b) copy (claimed_as a b like) (claimed_as b a (like_back a b like) copy) first
-broken_as a b like (Binding hold) first = (
-  λ copy. claimed_as a b like copy (first.0 copy),
-  least_as (IsRightlyBound a) (IsRightlyBound b) hold (bound_as a b like) (bound_as b a (like_back a b like) hold) first.1,
-)
-broken_as a b like (Balance patron) first = (
-  λ copy. claimed_as a b like copy (first.0 copy),
-  λ hold. bound_as a b like hold (first.1 hold),
-  least_as (IsBalanced a) (IsBalanced b) patron (balanced_as a b like) (balanced_as b a (like_back a b like) patron) first.2,
-)
+  pub broken_as : (finding : Finding) → IsFirstBroken some finding → IsFirstBroken all finding
+  broken_as finding first = subst (λ t. IsFirstBroken t finding) rows_are (broken_with some all.kept finding first)

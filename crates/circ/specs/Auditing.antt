@@ -21,16 +21,29 @@ use Rattle.model.specs.Picture.{picture}
 use Rattle.model.specs.Forms.{HasForms}
 use Rattle.model.specs.Requests.{IsLegal}
 use Rattle.desk.specs.Answering.{Shows}
+use Rattle.circ_audit.specs.Barcodes.{AreDistinct, IsFirstDoubled}
 use Rattle.circ_audit.specs.Sound.{IsSound, IsFirstBroken}
 use Rattle.circ_audit.specs.declared.auditing.Finding.{Finding}
+use Rattle.circ_audit.specs.declared.auditing.Finding.TheVariants.{Reference}
+use Rattle.circ_audit.specs.declared.references.Table.TheVariants.{Barcodes}
 use Rattle.circ.specs.declared.lines.Exit.{Exit}
 use Rattle.circ.specs.declared.lines.Exit.TheVariants.{Done, Refused, Faulted}
 use Rattle.circ.specs.Lines.{sound_line, finding_line, old_row_line, fault_line}
 
+-- The rows keep the five laws, and no two things have the same barcode.
+pub record AreSound (rows : Tables) : Type 0 where
+  pub laws : IsSound rows
+  pub barcodes : AreDistinct rows.barcodes
+
+-- The rows keep the five laws, and this is the number of the first thing with a barcode of one before it.
+pub record IsDoubled (number : ℕ) (rows : Tables) : Type 0 where
+  pub laws : IsSound rows
+  pub doubled : IsFirstDoubled rows.barcodes number
+
 -- A legal history leaves tables whose rows satisfy the laws that concern them.
 abbrev pub LegalTablesAreSound : Type 0
 LegalTablesAreSound = (H : History) (tables : Tables) → IsLegal H → HasForms H
-    → AreAuditTables (picture H) tables → IsSound tables
+    → AreAuditTables (picture H) tables → AreSound tables
 
 -- The rows that the laws concern were read and satisfy `Is`, and so do all rows, of each picture within the
 -- limits that the tables show.
@@ -40,7 +53,7 @@ Reads g old new Is tables =
     IsClean g new → (P : Picture) → InLimits P → HasPicture (state g old).now P
     → AreAuditTables P tables × Is tables × ((all : Tables) → AreTables P all → Is all)
 
--- The line says that the tables are sound: their rows keep the three laws. Whatever they show, no row of the
+-- The line says that the tables are sound: their rows keep the laws. Whatever they show, no row of the
 -- thirteen tables is damaged, the tables of older schemas are empty, and nothing is changed.
 pub record SaysSound {S : Type 0} (g : Ghosts S) (old new : Held S) (line : List ℕ)
     (exit : Exit) : Type 0 where
@@ -48,7 +61,7 @@ pub record SaysSound {S : Type 0} (g : Ghosts S) (old new : Held S) (line : List
   pub line_is : line ≡ sound_line
   pub exit_is : exit ≡ Done
   pub legal : IsClean g new → HasLegalRows (state g old).now
-  pub read : Reads g old new IsSound tables
+  pub read : Reads g old new AreSound tables
   pub emptied : IsClean g new → HasNoOldRows (state g old).now
   pub nothing : IsClean g new → HasTables (state g old).now → IsAsItWas (state g old) (state g new)
 
@@ -65,7 +78,21 @@ pub record SaysUnsound {S : Type 0} (g : Ghosts S) (old new : Held S) (line : Li
   pub nothing : IsClean g new → HasTables (state g old).now → IsAsItWas (state g old) (state g new)
   pub never : IsClean g new → (H : History) → Shows (state g old) H → ⊥
 
--- The line is a row in a table of older schemas, though the rows keep the three laws: the least row of the
+-- The line is a thing with the barcode of another one, though the rows keep the five laws. No row of the
+-- tables is damaged, and nothing is changed. This never happens if the tables showed a list of accepted
+-- requests.
+pub record SaysDoubled {S : Type 0} (g : Ghosts S) (old new : Held S) (line : List ℕ)
+    (exit : Exit) : Type 0 where
+  pub tables : Tables
+  pub number : ℕ
+  pub line_is : line ≡ finding_line (Reference Barcodes number)
+  pub exit_is : exit ≡ Refused
+  pub legal : IsClean g new → HasLegalRows (state g old).now
+  pub read : Reads g old new (IsDoubled number) tables
+  pub nothing : IsClean g new → HasTables (state g old).now → IsAsItWas (state g old) (state g new)
+  pub never : IsClean g new → (H : History) → Shows (state g old) H → ⊥
+
+-- The line is a row in a table of older schemas, though the rows keep the laws: the least row of the
 -- first such table, of each picture within the limits that the tables show. Whatever they show, one of these
 -- tables has a row, no row of the thirteen tables is damaged, and nothing is changed. This never happens if
 -- the tables showed a list of accepted requests.
@@ -76,7 +103,7 @@ pub record SaysOldRow {S : Type 0} (g : Ghosts S) (old new : Held S) (line : Lis
   pub line_is : line ≡ old_row_line row
   pub exit_is : exit ≡ Refused
   pub legal : IsClean g new → HasLegalRows (state g old).now
-  pub read : Reads g old new IsSound tables
+  pub read : Reads g old new AreSound tables
   pub stands : IsClean g new → HasOldRows (state g old).now
   pub first : IsClean g new → (P : Picture) → InLimits P → HasPicture (state g old).now P → IsFirstOldRow P (Some row)
   pub nothing : IsClean g new → HasTables (state g old).now → IsAsItWas (state g old) (state g new)
@@ -96,11 +123,13 @@ pub record SaysFaulted {S : Type 0} (g : Ghosts S) (old new : Held S) (line : Li
   pub nothing : IsClean g new → IsOpen g new → HasTables (state g old).now
       → IsAsItWas (state g old) (state g new)
 
--- The line says that the tables are sound, or is a finding, a row in a table of older schemas, or a fault.
+-- The line says that the tables are sound, or is a finding, a doubled barcode, a row in a table of older
+-- schemas, or a fault.
 abbrev pub SaysOf : {S : Type 0} → Ghosts S → Held S → Held S → List ℕ → Exit → Type 0
 SaysOf g old new line exit =
     SaysSound g old new line exit
-    ⊎ (SaysUnsound g old new line exit ⊎ (SaysOldRow g old new line exit ⊎ SaysFaulted g old new line exit))
+    ⊎ (SaysUnsound g old new line exit ⊎ (SaysDoubled g old new line exit
+    ⊎ (SaysOldRow g old new line exit ⊎ SaysFaulted g old new line exit)))
 
 -- A library was audited, and a line was written.
 pub record SaysAudit {S E : Type 0} (g : Ghosts S) (old new : Held S)

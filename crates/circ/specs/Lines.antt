@@ -6,7 +6,11 @@ use Rattle.terms.specs.declared.reply.Reply.{Reply}
 use Rattle.terms.specs.Texts.{reply_text}
 use Rattle.terms.specs.declared.limits.TheConstants.{SCHEMA}
 use Rattle.circ_audit.specs.declared.auditing.Finding.{Finding}
-use Rattle.circ_audit.specs.declared.auditing.Finding.TheVariants.{Claims, Binding, Balance}
+use Rattle.circ_audit.specs.declared.auditing.Finding.TheVariants.{Claims, Binding, Balance, Reference, Numbers}
+use Rattle.circ_audit.specs.declared.numbers.Series.{Series}
+use Rattle.circ_audit.specs.declared.numbers.Series.TheVariants as series
+use Rattle.circ_audit.specs.declared.references.Table.{Table}
+use Rattle.circ_audit.specs.declared.references.Table.TheVariants as table
 use Rattle.store.specs.declared.older.OldRow.{OldRow}
 use Rattle.store.specs.declared.older.OldRow.TheVariants.{Rule, Loan, Hold}
 use Rattle.circ.specs.declared.lines.Exit.{Exit}
@@ -39,7 +43,7 @@ port_line port = codes "listening on " ++ decimal port ++ 10 ∷ []
 abbrev pub threads_line : List ℕ
 threads_line = codes "fault threads" ++ 10 ∷ []
 
--- The tables keep the three laws of sound tables, and those of older schemas are empty.
+-- The tables keep the five laws of sound tables, and those of older schemas are empty.
 abbrev pub sound_line : List ℕ
 sound_line = codes "sound" ++ 10 ∷ []
 
@@ -51,11 +55,32 @@ schema_line = codes "schema " ++ decimal SCHEMA ++ 10 ∷ []
 abbrev pub unsound_line : List ℕ → ℕ → List ℕ
 unsound_line law number = codes "unsound " ++ (law ++ (decimal number ++ 10 ∷ []))
 
+-- A row of a table names a missing one: the table, as SQL names it.
+abbrev pub reference_words : Table → List ℕ
+reference_words table.ClosedDays = codes "reference closed_days "
+reference_words table.Rules = codes "reference rules3 "
+reference_words table.Patrons = codes "reference patrons "
+reference_words table.Copies = codes "reference copies "
+reference_words table.Loans = codes "reference loans3 "
+reference_words table.Holds = codes "reference holds2 "
+reference_words table.Transits = codes "reference transits "
+reference_words table.Lines = codes "reference lines "
+reference_words table.Barcodes = codes "reference barcodes "
+reference_words table.Notes = codes "reference notes "
+
+-- A number of a table is wrong.
+abbrev pub number_words : Series → List ℕ
+number_words series.Loans = codes "numbers loans3 "
+number_words series.Holds = codes "numbers holds2 "
+number_words series.Lines = codes "numbers lines "
+
 -- An audit's finding: the law and the number.
 abbrev pub finding_line : Finding → List ℕ
 finding_line (Claims copy) = unsound_line (codes "claims ") copy
 finding_line (Binding hold) = unsound_line (codes "binding ") hold
 finding_line (Balance patron) = unsound_line (codes "balance ") patron
+finding_line (Reference table n) = unsound_line (reference_words table) n
+finding_line (Numbers series n) = unsound_line (number_words series) n
 
 -- A row in a table of older schemas: the table, as SQL names it, and the last number of the row's key.
 abbrev pub old_row_line : OldRow → List ℕ

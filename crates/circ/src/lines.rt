@@ -7,11 +7,11 @@ ghost use Rattle.circ.specs.Exits.{status_of, exit_of};
 ghost use Rattle.circ.specs.Lines.{reply_line, fault_line, not_understood_line};
 ghost use Rattle.circ.specs.Lines.{no_network_line, port_line, threads_line, EndsWith};
 ghost use Rattle.circ.specs.Lines.{schema_line, sound_line, unsound_line, finding_line};
-ghost use Rattle.circ.specs.Lines.{old_row_line, no_keys_line};
+ghost use Rattle.circ.specs.Lines.{old_row_line, no_keys_line, reference_words, number_words};
 ghost use Rattle.terms.specs.Writing.{Writes};
 
 use crate::writing::write_reply;
-use circ_audit::Finding;
+use circ_audit::{Finding, Series, Table};
 use itoa::Buffer;
 use std::io::Write;
 use store::OldRow;
@@ -185,6 +185,35 @@ fn tell_unsound<W: Write>(writer: &mut W, law: &[u8], number: u32) -> Result<Exi
     Ok(Exit::Refused)
 }
 
+/// Returns the words of a law: a row of the table names a missing one.
+fn reference_words(table: Table) -> &'static [u8]
+    ensures { result.now ≡ reference_words table }
+{
+    match table {
+        Table::ClosedDays => b"reference closed_days ",
+        Table::Rules => b"reference rules3 ",
+        Table::Patrons => b"reference patrons ",
+        Table::Copies => b"reference copies ",
+        Table::Loans => b"reference loans3 ",
+        Table::Holds => b"reference holds2 ",
+        Table::Transits => b"reference transits ",
+        Table::Lines => b"reference lines ",
+        Table::Barcodes => b"reference barcodes ",
+        Table::Notes => b"reference notes ",
+    }
+}
+
+/// Returns the words of a law: a number of the table is wrong.
+fn number_words(series: Series) -> &'static [u8]
+    ensures { result.now ≡ number_words series }
+{
+    match series {
+        Series::Loans => b"numbers loans3 ",
+        Series::Holds => b"numbers holds2 ",
+        Series::Lines => b"numbers lines ",
+    }
+}
+
 /// Writes the finding of an audit. Takes no memory.
 pub(crate) fn tell_finding<W: Write>(writer: &mut W, finding: Finding) -> Result<Exit, WriteFault>
     ensures { EndsWith Exit.Refused (finding_line finding)
@@ -194,6 +223,8 @@ pub(crate) fn tell_finding<W: Write>(writer: &mut W, finding: Finding) -> Result
         Finding::Claims(copy) => tell_unsound(writer, b"claims ", copy.number()),
         Finding::Binding(hold) => tell_unsound(writer, b"binding ", hold.number()),
         Finding::Balance(patron) => tell_unsound(writer, b"balance ", patron.number()),
+        Finding::Reference(table, number) => tell_unsound(writer, reference_words(table), number),
+        Finding::Numbers(series, number) => tell_unsound(writer, number_words(series), number),
     }
 }
 

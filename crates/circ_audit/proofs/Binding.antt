@@ -8,6 +8,7 @@ use Rattle.circ_audit.specs.Rows.{hold_row, is_fit, serves}
 use Rattle.circ_audit.specs.Sound.{IsFit, IsServed, IsServedOnce, IsRightlyBound, FailsFirst}
 use Rattle.circ_audit.specs.Spans.{first_after, first_named, earlier_of}
 use Rattle.circ_audit.proofs.Firsts.{fails-same, fails-both, row-breaks, row-keeps}
+use Rattle.circ_audit.proofs.Referring.{passed-more}
 
 -- The law of the rows of holds, and of those of transits.
 abbrev pub AreFit : Tables → List HoldRow → ℕ → Type 0
@@ -20,16 +21,7 @@ module _ (t : Tables) (i : ℕ) (first : Option ℕ) where
   -- One hold's row more.
   pub fit-more : (rows : List HoldRow) (r : HoldRow) → i < length rows → r ≡ get_or rows i r → FailsFirst (AreFit t (take i rows)) first
       → FailsFirst (AreFit t (take (i + 1) rows)) (first_after (is_fit t.copies r) r.hold first)
-  fit-more rows r lt is before = go (is_fit t.copies r) refl
-    where
-      Q : ℕ → HoldRow → Type 0
-      Q h q = q.hold ≡ h → is_fit t.copies q ≡ true
-
-      go : (b : Bool) → is_fit t.copies r ≡ b → FailsFirst (AreFit t (take (i + 1) rows)) (first_after b r.hold first)
-      go true e = row-keeps rows i r lt is (λ h q. q.hold ≡ h → is_fit t.copies q ≡ true) first (λ m same. e) before
-      go false e =
-          row-breaks rows i r lt is (λ h q. q.hold ≡ h → is_fit t.copies q ≡ true) first r.hold (λ m other same. absurd (other (sym same)))
-          (λ fit. let yes' : is_fit t.copies r ≡ true = fit refl in let never : ⊥ = cc in never) before
+  fit-more rows r lt is before = passed-more (λ q. q.hold) (is_fit t.copies) i first rows r lt is before
 
   -- One transit more.
   pub served-more : (rows : List TransitRow) (r : TransitRow) → i < length rows → r ≡ get_or rows i r → FailsFirst (AreServed t (take i rows)) first

@@ -5,7 +5,7 @@ use Rattle.std.specs.Prelude.{All}
 use Rattle.std.proofs.lemmas.List.{length-take, take-take, get_or-take}
 use Rattle.std.proofs.lemmas.List.Elements.{All-take, All-more}
 use Rattle.std.proofs.lemmas.Bool.{cases_eq, cases_lt, ltb-true, ltb-false}
-use Rattle.std.specs.Prelude.{nat_lt}
+use Rattle.std.specs.Prelude.{nat_lt, MatchOption}
 use Rattle.circ_audit.specs.Sound.{IsLeastBroken, FailsFirst}
 use Rattle.circ_audit.specs.Spans.{span_of, lesser_of, earlier_of, IsBelow, FailsOn}
 
@@ -105,6 +105,12 @@ module _ {R : Type 0} (rows : List R) (i : ℕ) (x : R) (lt : i < length rows) (
 pub none-found : (Law : ℕ → Type 0) (found : Option ℕ) → ((n : ℕ) → found ≡ Some n → ⊥) → FailsFirst Law found → (n : ℕ) → Law n
 none-found Law None none all = all
 none-found Law (Some k) none least = absurd (none k refl)
+
+-- The same of what is found in any form.
+pub unmatched : {A : Type 0} {None-is : Type 0} (Some-is : A → Type 0) (found : Option A) → ((x : A) → found ≡ Some x → ⊥)
+    → MatchOption found None-is Some-is → None-is
+unmatched Some-is None none is = is
+unmatched Some-is (Some x) none is = absurd (none x refl)
 
 -- There is one least number of which it doesn't hold.
 pub least-unique : (Law : ℕ → Type 0) (m n : ℕ) → IsLeastBroken Law m → IsLeastBroken Law n → m ≡ n

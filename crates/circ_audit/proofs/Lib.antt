@@ -2,5 +2,7 @@ mod Firsts
 mod Counting
 mod Adding
 pub mod Lookups
+mod Gaps
+mod Referring
 mod Binding
 mod Audited

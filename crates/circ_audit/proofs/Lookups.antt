@@ -1,8 +1,9 @@
 -- Rows looked up by number, in ascending order.
-use Rattle.std.proofs.Common.{◌≡◌, ◌≢◌, ◌⊎◌, ℕ, zero, suc, ◌<◌, ◌≤◌, Bool, true, false, List, [], ◌∷◌, length, get_or, Some, None, Ok, Err}
+use Rattle.std.proofs.Common.{◌≡◌, ◌≢◌, ◌⊎◌, ℕ, zero, suc, ◌<◌, ◌≤◌, Bool, true, false, List, [], ◌∷◌, length, get_or, Some, None, Result, Ok, Err}
 use Rattle.std.proofs.Common.{refl, sym, ◌∙◌, ap, subst, inl, inr, eqb, arith}
-use Rattle.std.specs.Prelude.{find}
-use Rattle.std.specs.List.Sorted.{IsBinarySearchResult, IsNonDecreasingBy}
+use Rattle.std.specs.Prelude.{find, is_some, is_ok, slice_get}
+use Rattle.std.proofs.lemmas.Option.{slice_get-get_or}
+use Rattle.std.specs.List.Sorted.{IsBinarySearchResult, IsNonDecreasingBy, IsSearchInRange}
 use Rattle.std.specs.Ordering.{nat_cmp, ordering_index}
 use Rattle.std.proofs.lemmas.Cmp.{ranked}
 use Rattle.std.proofs.lemmas.Bool.{cases_eq, cases_lt, eqb-true, eq-eqb}
@@ -20,11 +21,11 @@ find-at p (y ∷ rows) (suc i) x lt is passes before =
     rw no (find-at p rows i x (omega (arith, lt)) is passes (λ k below. before (suc k) (omega (arith, below))))
 
 -- None is found where none passes.
-find-none : {R : Type 0} (p : R → Bool) (rows : List R) → ((k : ℕ) (d : R) → k < length rows → p (get_or rows k d) ≡ false) → find p rows ≡ None
+pub find-none : {R : Type 0} (p : R → Bool) (rows : List R) → ((k : ℕ) (d : R) → k < length rows → p (get_or rows k d) ≡ false) → find p rows ≡ None
 find-none p [] none = refl
 find-none p (y ∷ rows) none = let no : p y ≡ false = none 0 y (omega arith) in rw no (find-none p rows (λ k d below. none (suc k) d (omega (arith, below))))
 
-not-eqb : (m n : ℕ) → m ≢ n → eqb m n ≡ false
+pub not-eqb : (m n : ℕ) → m ≢ n → eqb m n ≡ false
 not-eqb m n differ = go (eqb m n) refl
   where
     go : (b : Bool) → eqb m n ≡ b → b ≡ false
@@ -83,3 +84,17 @@ module _ {R : Type 0} (number_of : R → ℕ) (rows : List R) (rise : Rise numbe
                   omega (arith, less, same)
               go (inr from) = let more : n < number_of (get_or rows k d) =
                   ranked (number_of (get_or rows k d)) n _ (sym ((parted comparisons-rise).1 k d from within)) in omega (arith, more, same)
+
+  -- So it tells whether a row has the number.
+  pub searched-has : (found : Result ℕ ℕ) → IsSearchInRange found (length rows)
+      → IsBinarySearchResult (λ r. nat_cmp (number_of r) n) rows found → is_ok found ≡ is_some (find (λ r. eqb (number_of r) n) rows)
+  searched-has (Ok place) within equal = go rows refl
+    where
+      go : (xs : List R) → rows ≡ xs → true ≡ is_some (find (λ r. eqb (number_of r) n) rows)
+      go [] none = let empty : length rows ≡ 0 = ap (λ (l : List R). length l) none in absurd (omega (arith, within, empty))
+      go (d ∷ xs) is =
+          let x = get_or rows place d in
+          let one : slice_get rows place ≡ Some x = slice_get-get_or rows place d within in
+          let other : slice_get rows place ≡ Some (get_or rows place x) = slice_get-get_or rows place x within in
+          ap is_some (searched-found place x within (let same : x ≡ get_or rows place x = cc in same) equal)
+  searched-has (Err gap) within parted = ap is_some (searched-none gap parted)

@@ -1,3 +1,6 @@
+pub mod Barcodes
+pub mod Numbers
+pub mod References
 pub mod Rows
 pub mod Sound
 pub mod Spans

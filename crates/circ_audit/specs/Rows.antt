@@ -10,7 +10,7 @@ use Rattle.terms.specs.declared.row.HoldState.TheVariants.{Waiting, Ready}
 use Rattle.terms.specs.declared.row.TransitRow.{TransitRow}
 use Rattle.terms.specs.declared.row.LineRow.{LineRow}
 use Rattle.terms.specs.declared.row.Sort.{Sort}
-use Rattle.terms.specs.declared.row.Sort.TheVariants.{Fine, Price}
+use Rattle.terms.specs.declared.row.Sort.TheVariants.{Fine, Price, Charge}
 
 -- The number is the one that is named.
 abbrev pub names : Option ℕ → ℕ → Bool
@@ -34,10 +34,11 @@ abbrev pub is_waiting : HoldState → Bool
 is_waiting Waiting = true
 is_waiting _ = false
 
--- The sort is a charge: a fine or a price.
+-- The sort is one of what is owed: a fine, a price or a charge.
 abbrev pub is_charge : Sort → Bool
 is_charge Fine = true
 is_charge Price = true
+is_charge Charge = true
 is_charge _ = false
 
 -- ---- the copy that a row claims
@@ -98,7 +99,7 @@ serves copies r None = false
 abbrev pub amount_of : LineRow → ℕ → ℕ
 amount_of r patron = if r.patron == patron then r.amount else 0
 
--- What a line charges the patron: a fine or a price.
+-- What a line charges the patron: a fine, a price or a charge.
 abbrev pub charge : LineRow → ℕ → ℕ
 charge r patron = if is_charge r.sort then amount_of r patron else 0
 

@@ -5,6 +5,8 @@ ghost use Rattle.circ_audit.specs.Sound.{Audits};
 use crate::balance::Balanced;
 use crate::bindings::first_unbound;
 use crate::claims::ClaimedOnce;
+use crate::numbers::{Series, first_number};
+use crate::references::{Table, first_reference};
 use crate::spans::first_broken;
 use terms::{CopyId, HoldId, PatronId, Tables};
 
@@ -17,12 +19,17 @@ pub enum Finding {
     Binding(HoldId),
     /// The patron's debt isn't the charges less payments and waivers.
     Balance(PatronId),
+    /// A row of the table, its key's last number this one, names a missing row.
+    Reference(Table, u32),
+    /// A number below the next one has no row, or else one that isn't below it has one.
+    Numbers(Series, u32),
 }
 
-/// Checks the three laws of sound tables (`specs/Sound.antt`): at most one claim on each copy,
-/// ready and coming holds bound to copies one to one, and the balance of each patron. Returns the
-/// first broken law with its least number. Takes no memory; time is linear in the rows, once per
-/// 65,536 numbers of copies, holds and patrons.
+/// Checks the five laws of sound tables (`specs/Sound.antt`): at most one claim on each copy, ready
+/// and coming holds bound to copies one to one, the balance of each patron, each row that another
+/// names, and the numbers of loans, holds and lines. Returns the first broken law with its least
+/// number. Takes no memory; time is linear in the rows, once per 65,536 numbers of copies, holds and
+/// patrons, and a search for each reference.
 pub fn audit(tables: &Tables) -> Result<(), Finding>
     ensures { Audits tables.now result }
 {
@@ -34,6 +41,12 @@ pub fn audit(tables: &Tables) -> Result<(), Finding>
     }
     if let Some(patron) = first_broken::<Balanced>(tables) {
         return Err(Finding::Balance(PatronId::new(patron)));
+    }
+    if let Some(found) = first_reference(tables) {
+        return Err(Finding::Reference(found.table, found.number));
+    }
+    if let Some(found) = first_number(tables) {
+        return Err(Finding::Numbers(found.series, found.number));
     }
     Ok(())
 }

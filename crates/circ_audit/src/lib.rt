@@ -1,4 +1,4 @@
-//! The audit of a library's tables: three laws of all rows read, and the first of them that is
+//! The audit of a library's tables: five laws of all rows read, and the first of them that is
 //! broken.
 #![tactic(auto)]
 
@@ -7,7 +7,13 @@ mod balance;
 mod bindings;
 mod claims;
 mod counters;
+mod doubled;
+mod numbers;
+mod references;
 mod rows;
 mod spans;
 
 pub use auditing::{Finding, audit};
+pub use doubled::doubled_barcode;
+pub use numbers::Series;
+pub use references::Table;

@@ -7,7 +7,7 @@ struct Explanation {
     text: &'static str,
 }
 
-const MEANINGS: [Explanation; 40] = [
+const MEANINGS: [Explanation; 42] = [
     Explanation {
         number: 10,
         text: "unknown branch",
@@ -41,6 +41,10 @@ const MEANINGS: [Explanation; 40] = [
         text: "unknown kind of patron",
     },
     Explanation {
+        number: 18,
+        text: "nothing has this barcode",
+    },
+    Explanation {
         number: 20,
         text: "there already, with other content",
     },
@@ -63,6 +67,10 @@ const MEANINGS: [Explanation; 40] = [
     Explanation {
         number: 25,
         text: "the day is not closed singly",
+    },
+    Explanation {
+        number: 26,
+        text: "another copy or patron has this barcode",
     },
     Explanation {
         number: 30,
@@ -179,7 +187,7 @@ struct Phrase {
     text: &'static str,
 }
 
-const SAYINGS: [Phrase; 8] = [
+const SAYINGS: [Phrase; 13] = [
     Phrase {
         line: "fault reading",
         text: "the copies file is missing or can't be read",
@@ -210,9 +218,34 @@ const SAYINGS: [Phrase; 8] = [
         text: "the patron with this number doesn't owe the charges less payments and waivers",
     },
     Phrase {
-        line: "unsound numbers ",
+        line: "unsound reference barcodes ",
+        text: "the patron or copy with this number is missing, or has the barcode of another: \
+               restore a backup",
+    },
+    Phrase {
+        line: "unsound reference ",
+        text: "a row of this table, whose key ends with this number, names a row that is missing: \
+               restore a backup",
+    },
+    Phrase {
+        line: "unsound numbers rules ",
         text: "this table has a row with this number, though only libraries of older schemas have \
                rows there: restore a backup, or take its rows out with sqlite3",
+    },
+    Phrase {
+        line: "unsound numbers loans ",
+        text: "this table has a row with this number, though only libraries of older schemas have \
+               rows there: restore a backup, or take its rows out with sqlite3",
+    },
+    Phrase {
+        line: "unsound numbers holds ",
+        text: "this table has a row with this number, though only libraries of older schemas have \
+               rows there: restore a backup, or take its rows out with sqlite3",
+    },
+    Phrase {
+        line: "unsound numbers ",
+        text: "the row of this table with this number is missing, or there though the number was \
+               not given: restore a backup",
     },
 ];
 

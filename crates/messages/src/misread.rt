@@ -5,8 +5,8 @@ use itoa::Buffer;
 use std::alloc::Global;
 use std::io::Write;
 use terms::{
-    CardKey, Day, Mask, Name, PartForm, PartKind, WriteFault, parts_for, read_number, write_bytes,
-    write_pieces,
+    Barcode, CardKey, Day, Mask, Name, PartForm, PartKind, WriteFault, parts_for, read_number,
+    write_bytes, write_pieces,
 };
 
 /// The run that was given the words.
@@ -36,6 +36,7 @@ pub fn wanted(kind: PartKind) -> &'static str {
         PartKind::Day => "a day from 2000-01-01 to 2199-12-31, such as 2026-03-02",
         PartKind::Mask => "seven letters, Monday to Sunday: o for open, c for closed",
         PartKind::CardKey => "8 to 32 ASCII letters and digits",
+        PartKind::Barcode => "1 to 24 ASCII letters and digits",
         PartKind::Name => { "1 to 120 bytes, with no control character and no space at either end" }
     }
 }
@@ -47,6 +48,10 @@ fn can_be(alloc: Global, kind: PartKind, word: &str) -> bool {
         PartKind::Day => Day::read(word).is_some(),
         PartKind::Mask => Mask::read(word).is_some(),
         PartKind::CardKey => match CardKey::new(alloc, word) {
+            Ok(read) => read.is_some(),
+            Err(_) => true,
+        },
+        PartKind::Barcode => match Barcode::new(alloc, word) {
             Ok(read) => read.is_some(),
             Err(_) => true,
         },

@@ -5,7 +5,7 @@ use std::io::Write;
 use terms::{PartForm, WriteFault, command_forms, write_bytes, write_pieces};
 
 /// The version of the program.
-pub const VERSION: &str = "0.13.0";
+pub const VERSION: &str = "0.14.0";
 
 /// The usage of a run: its first word, and the rest.
 struct RunForm {

@@ -1,4 +1,4 @@
-use Rattle.std.proofs.Common.{ℕ, sym, subst}
+use Rattle.std.proofs.Common.{ℕ, List, sym, subst}
 use Rattle.std.specs.Prelude.{codes}
 use Rattle.circ_audit.specs.declared.auditing.Finding.{Finding}
 use Rattle.circ.specs.declared.lines.Exit.TheVariants.{Refused}
@@ -21,3 +21,21 @@ returns-in-Balance g c =
     (subst (λ (n : ℕ). EndsWith Refused (unsound_line (codes "balance ") n) (g.W.Write.contents c.args.writer.now)
     (g.W.Write.contents c.tell_unsound-in-Balance.new.writer) c.tell_unsound-in-Balance.result)
     c.number-in-Balance.ensures.value c.tell_unsound-in-Balance.ensures)
+
+pub returns-in-Reference : goal.returns-in-Reference
+returns-in-Reference g c =
+    subst (λ (f : Finding). EndsWith Refused (finding_line f) (g.W.Write.contents c.args.writer.now)
+    (g.W.Write.contents c.tell_unsound-in-Reference.new.writer) c.tell_unsound-in-Reference.result)
+    (sym c.in-Reference.is)
+    (subst (λ (words : List ℕ). EndsWith Refused (unsound_line words c.in-Reference.number) (g.W.Write.contents c.args.writer.now)
+    (g.W.Write.contents c.tell_unsound-in-Reference.new.writer) c.tell_unsound-in-Reference.result)
+    c.reference_words.ensures c.tell_unsound-in-Reference.ensures)
+
+pub returns-in-Numbers : goal.returns-in-Numbers
+returns-in-Numbers g c =
+    subst (λ (f : Finding). EndsWith Refused (finding_line f) (g.W.Write.contents c.args.writer.now)
+    (g.W.Write.contents c.tell_unsound-in-Numbers.new.writer) c.tell_unsound-in-Numbers.result)
+    (sym c.in-Numbers.is)
+    (subst (λ (words : List ℕ). EndsWith Refused (unsound_line words c.in-Numbers.number) (g.W.Write.contents c.args.writer.now)
+    (g.W.Write.contents c.tell_unsound-in-Numbers.new.writer) c.tell_unsound-in-Numbers.result)
+    c.number_words.ensures c.tell_unsound-in-Numbers.ensures)
