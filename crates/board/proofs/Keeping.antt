@@ -7,8 +7,9 @@ use Rattle.std.proofs.lemmas.List.{append-nil, map-append}
 use Rattle.std.proofs.Math.ListN.{length-set}
 use Rattle.crossbeam_utils.specs.Register.{Admits, Turns, TurnsAt}
 use Rattle.atomic_table.proofs.Lists.{at_set, at_snoc}
-use Rattle.std.specs.Prelude.{IsSome}
+use Rattle.std.specs.Prelude.{IsSome, Result}
 use Rattle.terms.specs.declared.command.Request.{Request}
+use Rattle.terms.specs.declared.fault.Fault.{Fault}
 use Rattle.terms.specs.declared.reply.Reply.{Reply}
 use Rattle.board.specs.declared.board.Update.{Update}
 use Rattle.logbook.specs.Pages.{Book}
@@ -18,7 +19,7 @@ use Rattle.board.specs.declared.entry.Frame.{Frame}
 use Rattle.board.specs.declared.entry.Seen.{Seen}
 use Rattle.board.specs.declared.entry.Sight.{Sight}
 use Rattle.board.specs.Workers.{is_worker}
-use Rattle.board.specs.Showing.{Showing, EachIs, GoesOn, IsBoardOf, IsNextEntry, AreEntries, IsReply, ShowsEntry, ShowsMore}
+use Rattle.board.specs.Showing.{Showing, EachIs, GoesOn, IsBoardOf, IsNextEntry, AreEntries, IsAnswer, LeavesOpen, ShowsEntry, ShowsMore}
 use Rattle.board.specs.Showing.{page_at, page_of, last_pages, first_seen, seen_of, entries_of, next_frame, overlaid, last_of}
 use Rattle.board.specs.Showing.{last_on, count_own, with_entry, updated}
 use Rattle.desk.specs.declared.showing.OwnPage.{OwnPage}
@@ -223,10 +224,10 @@ some-seen all x w b shown none = by (is_worker w) (last_on w x) shown (b.last w 
     by true None s h = absurd (cc)
     by false None s h = absurd (cc)
 
--- a reply that was seen at its number is on the board
+-- an answer that was seen at its number is on the board
 pub not-found : (all : Seen) (x : Showing) (w n : ℕ) (request : Request) → IsBoardOf all x → AreEntries [] all.entries
-    → ((e : Entry) → ¬ ShowsEntry x w n request e) → (reply : Reply) → ¬ IsReply all.entries w n request reply
-not-found all x w n request b sound none reply is =
+    → ((e : Entry) → ¬ ShowsEntry x w n request e) → (answer : Result Reply Fault) → ¬ IsAnswer all.entries w n request answer
+not-found all x w n request b sound none answer is =
     let may = each_at IsNextEntry [] is.front is.entry is.rest (subst (AreEntries []) is.seen_is sound) in
     let worker : is_worker w ≡ true = ap is_worker (sym is.worker_is) ∙ may.worker in
     let one : ◌≡◌ {A = ℕ} (cond (eqb is.entry.worker w) 1 0) 1 = ap (λ c. cond c 1 0) (eqb-self is.entry.worker w is.worker_is) in
@@ -240,12 +241,12 @@ not-found all x w n request b sound none reply is =
       request_is = is.request_is;
     })
 
--- what a worker finds under its number is the reply to its submission
+-- what a worker finds under its number is the answer to its submission
 pub found : (all : Seen) (x : Showing) (w n : ℕ) (request : Request) (e : Entry) → IsBoardOf all x → AreEntries [] all.entries
-    → ShowsEntry x w n request e → IsReply all.entries w n request e.reply
+    → ShowsEntry x w n request e → IsAnswer all.entries w n request e.answer
 found all x w n request e b sound shows = by (is_worker w) (sym (b.last w) ∙ shows.last)
   where
-    by : (c : Bool) → cond c (last_of w all.entries) None ≡ Some e → IsReply all.entries w n request e.reply
+    by : (c : Bool) → cond c (last_of w all.entries) None ≡ Some e → IsAnswer all.entries w n request e.answer
     by false h = absurd (cc)
     by true h =
         let s : StandsLast w all.entries e = found_in w all.entries e h in
@@ -259,7 +260,8 @@ found all x w n request e b sound shows = by (is_worker w) (sym (b.last w) ∙ s
           worker_is = s.mine;
           number_is = shows.number;
           request_is = shows.request_is;
-          reply_is = refl;
+          answer_is = refl;
+          stays = subst (λ (r : Request). LeavesOpen r e.answer) shows.request_is next.stays;
           next = place;
           all = count_found w all.entries e s ∙ sym place;
         }

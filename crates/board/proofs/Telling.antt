@@ -1,5 +1,6 @@
 -- What a list of accepted requests makes of the board's content.
 use Rattle.std.proofs.Common.{◌≡◌, ◌⊎◌, inl, inr, ℕ, ◌+◌, List, [], ◌∷◌, ◌++◌, length, sym, ap, ◌∙◌, subst, arith, length-append}
+use Rattle.std.specs.Prelude.{Ok}
 use Rattle.model.specs.History.{History}
 use Rattle.model.specs.Requests.{after, reply_to}
 use Rattle.desk.specs.Showing.{own_page}
@@ -53,6 +54,6 @@ told-more H old new put e told more reply pages = record {
         absurd (omega (arith, short, long, looked, more.looked))
 
 -- an entry that was seen
-pub told-reply : (H : History) (all : Seen) (front : List Entry) (e : Entry) (rest : List Entry) → IsTold H all → all.entries ≡ front ++ e
-    ∷ rest → e.reply ≡ reply_to (after H (requests front)) e.request
-told-reply H all front e rest told is = each_at (IsGivenAfter H) [] front e rest (subst (λ l. EachIs (IsGivenAfter H) [] l) is told.replies)
+pub told-answer : (H : History) (all : Seen) (front : List Entry) (e : Entry) (rest : List Entry) → IsTold H all → all.entries ≡ front ++ e
+    ∷ rest → e.answer ≡ Ok (reply_to (after H (requests front)) e.request)
+told-answer H all front e rest told is = each_at (IsGivenAfter H) [] front e rest (subst (λ l. EachIs (IsGivenAfter H) [] l) is told.replies)

@@ -1,15 +1,17 @@
 -- What the board of a hall shows.
 use Rattle.std.specs.Prelude.{◌≡◌, ℕ, ◌+◌, ◌-◌, ◌==◌, true, if◌then◌else◌, List, [], ◌∷◌, ◌++◌, fold, length, map, set, slice_index_or}
-use Rattle.std.specs.Prelude.{count_by, Option, None, Some}
+use Rattle.std.specs.Prelude.{count_by, Option, None, Some, Result, Ok, Err}
 use Rattle.std.specs.Option.{option_or}
 use Rattle.std.specs.Ordering.{nat_cmp}
 use Rattle.std.specs.Map.{lookup}
 use Rattle.std.specs.BTreeMap.{insert_entry, is_at}
 use Rattle.std.specs.Arc.{arc_value}
 use Rattle.terms.specs.declared.command.Request.{Request}
+use Rattle.terms.specs.declared.fault.Fault.{Fault}
+use Rattle.terms.specs.declared.fault.Fault.TheVariants.{Stored}
 use Rattle.terms.specs.declared.reply.Reply.{Reply}
 use Rattle.model.specs.History.{History}
-use Rattle.model.specs.Requests.{after, reply_to}
+use Rattle.model.specs.Requests.{after, reply_to, only_asks}
 use Rattle.board.specs.declared.board.Update.{Update}
 use Rattle.board.specs.declared.board.Update.TheVariants as update
 use Rattle.board.specs.declared.entry.Entry.{Entry}
@@ -154,10 +156,17 @@ next_frame x us e = record { entry = Some e; pages = (fold updated x us).pages }
 
 -- ---- what holds of it
 
--- The entry may follow these: it is a worker's, and has that worker's next number.
+-- More may be handled after this answer: it is a reply, or fault 93 to a request that only asks.
+abbrev pub LeavesOpen : Request → Result Reply Fault → Type 0
+LeavesOpen request (Ok reply) = Unit {0}
+LeavesOpen request (Err fault) = (fault ≡ Stored) × (only_asks request.command ≡ true)
+
+-- The entry may follow these: it is a worker's, has that worker's next number, and more may be handled after
+-- its answer.
 pub record IsNextEntry (before : List Entry) (e : Entry) : Type 0 where
   pub worker : is_worker e.worker ≡ true
   pub number : e.number ≡ count_own e.worker before + 1
+  pub stays : LeavesOpen e.request e.answer
 
 -- Each of these entries may follow those before it.
 abbrev pub AreEntries : List Entry → List Entry → Type 0
@@ -169,9 +178,9 @@ pub record IsBoardOf (all : Seen) (x : Showing) : Type 0 where
   pub pages : x.pages ≡ last_pages all.pages
   pub looked : HasLooked all
 
--- The worker's submission with this number has this reply: what was seen shows it in its place in the list,
+-- The worker's submission with this number has this answer: what was seen shows it in its place in the list,
 -- for this request, after all others of the worker's own.
-pub record IsReply (seen : List Entry) (w n : ℕ) (request : Request) (reply : Reply) : Type 0 where
+pub record IsAnswer (seen : List Entry) (w n : ℕ) (request : Request) (answer : Result Reply Fault) : Type 0 where
   pub front : List Entry
   pub entry : Entry
   pub rest : List Entry
@@ -179,17 +188,18 @@ pub record IsReply (seen : List Entry) (w n : ℕ) (request : Request) (reply : 
   pub worker_is : entry.worker ≡ w
   pub number_is : entry.number ≡ n
   pub request_is : entry.request ≡ request
-  pub reply_is : entry.reply ≡ reply
+  pub answer_is : entry.answer ≡ answer
+  pub stays : LeavesOpen request answer
   pub next : n ≡ count_own w front + 1
   pub all : count_own w seen ≡ n
 
 -- ---- what a list of accepted requests gives
 
--- The reply is the list's after these entries.
+-- The answer is the list's reply after these entries.
 abbrev pub IsGivenAfter : History → List Entry → Entry → Type 0
-IsGivenAfter H before e = e.reply ≡ reply_to (after H (requests before)) e.request
+IsGivenAfter H before e = e.answer ≡ Ok (reply_to (after H (requests before)) e.request)
 
--- Each reply shown is the one that this list of accepted requests gives in its place, and each page is the
+-- Each answer shown is the reply that this list of accepted requests gives in its place, and each page is the
 -- one after this list and the beginning with which it was shown.
 pub record IsTold (H : History) (all : Seen) : Type 0 where
   pub replies : EachIs (IsGivenAfter H) [] all.entries

@@ -4,15 +4,16 @@ use crate::request::SharedRequest;
 use crate::worker_id::WorkerId;
 use desk::OwnPage;
 use std::collections::LinkedList;
-use terms::Reply;
+use terms::{Fault, Reply};
 
-/// An entry of the handled list: a worker's submission with its number, and its reply.
+/// An entry of the handled list: a worker's submission with its number, and its answer: a reply, or
+/// fault 93 if it only asks and met a damaged row.
 #[derive(Drop)]
 pub struct Entry {
     pub worker: WorkerId,
     pub number: u64,
     pub request: SharedRequest,
-    pub reply: Reply,
+    pub answer: Result<Reply, Fault>,
 }
 
 /// What the board shows between two entries: the first of them (none in the first frame) and all

@@ -1,11 +1,12 @@
 //! A worker's side of the board.
 
-ghost use Rattle.std.specs.Prelude.{◌≡◌, ◌≢◌, ◌+◌, IfOk, IfSome, IsTrue, IsFalse, MatchOption, OnOk, option_map};
+ghost use Rattle.std.specs.Prelude.{◌≡◌, ◌≢◌, ◌+◌, IfOk, IfSome, IsTrue, IsFalse, MatchOption, OnOk, option_map, Result};
 ghost use Rattle.std.specs.Arc.{arc_value};
 ghost use Rattle.left_right.specs.Sides.{view as knows};
 ghost use Rattle.board.specs.declared.entry.Sight.{Sight};
+ghost use Rattle.terms.specs.declared.fault.Fault.{Fault};
 ghost use Rattle.terms.specs.declared.reply.Reply.{Reply};
-ghost use Rattle.board.specs.Showing.{GoesOn, HasLooked, page_of, seen_of, count_own, IsReply};
+ghost use Rattle.board.specs.Showing.{GoesOn, HasLooked, page_of, seen_of, count_own, IsAnswer};
 
 use crate::board::Board;
 use crate::entry::{Entry, Frame, Sight};
@@ -159,8 +160,10 @@ impl<J: Naming> Window<J> {
         ensures on { GoesOn self.new.seen self.old.seen }
         ensures look { OnOk result (self.new.looks ≡ self.old.looks + 1) }
         ensures found { IfOk result (λ found. MatchOption found
-            ((reply : Reply) → ¬ IsReply self.new.seen.entries worker number request.now reply)
-            (λ entry. IsReply self.new.seen.entries worker number request.now (arc_value entry).reply)) }
+            ((answer : Result Reply Fault)
+            → ¬ IsAnswer self.new.seen.entries worker number request.now answer)
+            (λ entry. IsAnswer self.new.seen.entries worker number request.now
+            (arc_value entry).answer)) }
     {
         let Some(reader) = self.reader.take() else {
             return Err(ReadError::Gone);

@@ -55,6 +55,7 @@ module _ {S : Type 0} (g : Ghosts S) (a : Held S) where
             rest ∙ ap (λ (x : List Request). x ++ more) d.rest_is;
         met = d.met;
         is = d.is;
+        closes = d.closes;
         handles = d.handles;
         shown =
             d.shown ∙ sym same;
@@ -116,7 +117,7 @@ module _ {S : Type 0} (g : Ghosts S) (a : Held S) where
         let more : handled m got' ≡ handled n got ++ s ∷ [] =
         ap (λ k. handled k got') t.counted ∙ (ap (handled (n + 1)) e ∙ handled_more n got s (all t.was)) in
         let made = subst (λ (l : List Request). HandledFirst l [] g a t.made None) (sym (submit_more n m got got' s e t.counted (all t.was)).1)
-        (handled-more g (requests (handled n got)) [] s.request a b t.made t.reply (desk t.was) t.handles [] t.made idle) in
+        (handled-more g (requests (handled n got)) [] s.request a b t.made t.answer (desk t.was) t.stays t.handles [] t.made idle) in
         is-fault (Met t.met) t.is (inr
         (inl (record {
           made = t.made;
@@ -140,8 +141,8 @@ module _ {S : Type 0} (g : Ghosts S) (a : Held S) where
           later = [];
           rest_is = rest_more n m got got' s e t.counted le ∙ none;
           met = t.met;
-          is =
-              refl;
+          is = refl;
+          closes = t.closes;
           handles = t.handles;
           shown = shown t.was ∙ sym same;
         }))

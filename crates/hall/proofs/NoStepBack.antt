@@ -1,15 +1,17 @@
--- No step back: a reply extends what was seen.
+-- No step back: an answer extends what was seen.
 use Rattle.std.proofs.Common.{◌≡◌, ℕ, ◌+◌, true, cond, eqb, List, [], ◌∷◌, ◌++◌, length, sym, refl, ap, ◌∙◌, subst, arith, length-append}
 use Rattle.board.specs.declared.entry.Entry.{Entry}
 use Rattle.board.specs.declared.entry.Seen.{Seen}
-use Rattle.board.specs.Showing.{StartsWith, GoesOn, IsReply, count_own}
+use Rattle.board.specs.Showing.{StartsWith, GoesOn, IsAnswer, count_own}
 use Rattle.board.proofs.Lasts.{count-cons, eqb-self}
 use Rattle.terms.specs.declared.command.Request.{Request}
+use Rattle.std.specs.Prelude.{Result}
+use Rattle.terms.specs.declared.fault.Fault.{Fault}
 use Rattle.terms.specs.declared.reply.Reply.{Reply}
 use Rattle.board.proofs.Beginnings.{starts_on}
 use Rattle.hall.specs.declared.messages.Message.TheVariants.{Submit}
 use Rattle.hall.specs.declared.messages.View.{View}
-use Rattle.hall.specs.Serving.{Working, IsReplied, Submits, submitted}
+use Rattle.hall.specs.Serving.{Working, IsAnswered, Submits, submitted}
 
 -- A beginning that has no more of a worker than what stands before an entry of it ends before that.
 before-entry : (w : ℕ) (front : List Entry) (e : Entry) (rest seen : List Entry) → e.worker ≡ w → StartsWith (front ++ e ∷ rest) seen
@@ -37,9 +39,9 @@ before-entry w (f ∷ fs) e rest (y ∷ ys) mine s same =
     tail h = cc
 
 -- What the worker saw before it submitted stands before its submission.
-pub later-than : (old mid new : List Entry) (w k n : ℕ) (request : Request) (reply : Reply) → StartsWith mid old → StartsWith new mid
-    → count_own w mid ≡ k → n ≡ k + 1 → (r : IsReply new w n request reply) → StartsWith r.front old
-later-than old mid new w k n request reply on next all number r =
+pub later-than : (old mid new : List Entry) (w k n : ℕ) (request : Request) (answer : Result Reply Fault) → StartsWith mid old → StartsWith new mid
+    → count_own w mid ≡ k → n ≡ k + 1 → (r : IsAnswer new w n request answer) → StartsWith r.front old
+later-than old mid new w k n request answer on next all number r =
     let same : count_own w mid ≡ count_own w r.front = omega (arith, all, number, r.next) in
     starts_on r.front mid old (before-entry w r.front r.entry r.rest mid r.worker_is (subst (λ l. StartsWith l mid) r.seen_is next) same) on
 
@@ -49,12 +51,12 @@ pub submits : (old mid sent : Working) (request own other : Request) → mid.pos
 submits old mid sent request own other same is made clone =
     subst (λ (q : Request). Submits old.post sent.post q) (clone ∙ made) (subst (λ (v : View). Submits v sent.post other) same is)
 
--- What was submitted and came back is the reply.
-pub replied : (old mid sent new : Working) (request own other : Request) (reply : Reply) → mid.post ≡ old.post → GoesOn mid.seen old.seen
+-- What was submitted and came back is the answer.
+pub replied : (old mid sent new : Working) (request own other : Request) (answer : Result Reply Fault) → mid.post ≡ old.post → GoesOn mid.seen old.seen
     → count_own old.post.worker mid.seen.entries ≡ length old.post.sent
     → Submits mid.post sent.post other × (sent.seen ≡ mid.seen) → new.post ≡ sent.post → GoesOn new.seen sent.seen → own ≡ request → other ≡ own
-    → IsReply new.seen.entries sent.post.worker (length sent.post.sent) own reply → IsReplied request old new reply
-replied old mid sent new request own other reply same on all is after' next made clone r =
+    → IsAnswer new.seen.entries sent.post.worker (length sent.post.sent) own answer → IsAnswered request old new answer
+replied old mid sent new request own other answer same on all is after' next made clone r =
     let sends : Submits old.post sent.post request = submits old mid sent request own other same is.0 made clone in
     let posts : sent.post ≡ submitted old.post request = sends.1 in
     let long : length sent.post.sent ≡ length old.post.sent + 1 =
@@ -63,13 +65,13 @@ replied old mid sent new request own other reply same on all is after' next made
     ∷ []) in
     let mine : sent.post.worker ≡ old.post.worker = ap (λ (v : View). v.worker) posts in
     let seen : GoesOn new.seen mid.seen = subst (λ (s : Seen). GoesOn new.seen s) is.1 next in
-    let here : IsReply new.seen.entries old.post.worker (length old.post.sent + 1) request reply =
-    subst (λ w. IsReply new.seen.entries w (length old.post.sent + 1) request reply) mine
-    (subst (λ n. IsReply new.seen.entries sent.post.worker n request reply) long
-    (subst (λ (q : Request). IsReply new.seen.entries sent.post.worker (length sent.post.sent) q reply) made r)) in
+    let here : IsAnswer new.seen.entries old.post.worker (length old.post.sent + 1) request answer =
+    subst (λ w. IsAnswer new.seen.entries w (length old.post.sent + 1) request answer) mine
+    (subst (λ n. IsAnswer new.seen.entries sent.post.worker n request answer) long
+    (subst (λ (q : Request). IsAnswer new.seen.entries sent.post.worker (length sent.post.sent) q answer) made r)) in
     record {
       submits = subst (λ (v : View). Submits old.post v request) (sym after') sends;
-      replied = here;
+      answered = here;
       later = later-than old.seen.entries mid.seen.entries new.seen.entries old.post.worker (length old.post.sent)
-          (length old.post.sent + 1) request reply on.0 seen.0 all refl here;
+          (length old.post.sent + 1) request answer on.0 seen.0 all refl here;
     }

@@ -11,7 +11,7 @@ use Rattle.terms.specs.declared.fault.Fault.TheVariants.{Memory, Stored}
 use Rattle.terms.specs.declared.fault.ServiceFault.TheVariants.{Met, Closed}
 use Rattle.terms.specs.declared.reply.Reply.{Reply}
 use Rattle.model.specs.History.{History}
-use Rattle.model.specs.Requests.{after, after_one}
+use Rattle.model.specs.Requests.{after, after_one, reply_to}
 use Rattle.desk.specs.Answering.{Shows, Stays, DeskLooks, Handled, LeavesOneOf}
 use Rattle.desk.specs.Running.{Handles}
 use Rattle.desk.proofs.Looking.{leaves-first}
@@ -24,6 +24,7 @@ use Rattle.hall.specs.declared.messages.Message.TheVariants.{Submit}
 use Rattle.hall.specs.Queue.{submissions, handled, unhandled, requests}
 use Rattle.hall.specs.Openings.{LooksOnly, MeetsFaultOf, IsMet}
 use Rattle.store.proofs.ReadLemmas.{ready_same, ready_then}
+use Rattle.board.specs.Showing.{LeavesOpen}
 use Rattle.hall.specs.Handling.{HandledFirst, HandledAny, LooksAny, TakesNext}
 use Rattle.hall.proofs.HandledLists.{submit_same, submit_more, rest_more, no_rest}
 
@@ -72,21 +73,28 @@ module _ {S : Type 0} (g : Ghosts S) where
   any-after-look : (first : List Request) (a b c : Held S) (fault : Option ServiceFault) → LooksAny g a b None
       → HandledAny g first b c fault → HandledAny g first a c fault
   any-after-look [] a b c fault look h = look-then a b c fault look h
-  any-after-look (r ∷ rs) a b c fault look h = (h.0, h.1, h.2, look-then a b h.0 None look h.3, h.4, h.5)
+  any-after-look (r ∷ rs) a b c fault look h = (h.0, h.1, h.2, look-then a b h.0 None look h.3, h.4, h.5, h.6)
 
   any-then-look : (first : List Request) (a b c : Held S) (fault : Option ServiceFault) → HandledAny g first a b None
       → LooksAny g b c fault → HandledAny g first a c fault
   any-then-look [] a b c fault h look = look-then a b c fault h look
-  any-then-look (r ∷ rs) a b c fault h look = (h.0, h.1, h.2, h.3, h.4, any-then-look rs h.1 b c fault h.5 look)
+  any-then-look (r ∷ rs) a b c fault h look = (h.0, h.1, h.2, h.3, h.4, h.5, any-then-look rs h.1 b c fault h.6 look)
 
   -- one request more
-  any-more : (first : List Request) (request : Request) (a b m c : Held S) (reply : Reply) (fault : Option ServiceFault)
-      → HandledAny g first a b None → Handled request g b m (Ok reply) → LooksAny g m c fault → HandledAny g (first ++ request ∷ []) a c fault
-  any-more [] request a b m c reply fault h d look = (b, m, reply, h, d, look)
-  any-more (r ∷ rs) request a b m c reply fault h d look =
-      (h.0, h.1, h.2, h.3, h.4, any-more rs request h.1 b m c reply fault h.5 d look)
+  any-more : (first : List Request) (request : Request) (a b m c : Held S) (answer : Result Reply Fault) (fault : Option ServiceFault)
+      → HandledAny g first a b None → LeavesOpen request answer → Handled request g b m answer → LooksAny g m c fault
+      → HandledAny g (first ++ request ∷ []) a c fault
+  any-more [] request a b m c answer fault h stays d look = (b, m, answer, h, stays, d, look)
+  any-more (r ∷ rs) request a b m c answer fault h stays d look =
+      (h.0, h.1, h.2, h.3, h.4, h.5, any-more rs request h.1 b m c answer fault h.6 stays d look)
 
   -- ---- tables that show a list of accepted requests
+
+  -- what more may follow was answered as the list gives it: a fault doesn't come
+  pub answered : (request : Request) (a b : Held S) (answer : Result Reply Fault) → LeavesOpen request answer → Handled request g a b answer
+      → IsClean g b → (H : History) → Shows (state g a) H → (answer ≡ Ok (reply_to H request)) × Shows (state g b) (after_one H request)
+  answered request a b (Ok reply) stays d disk H shows = let r = d.replied disk H shows in (ap Ok r.0, r.1)
+  answered request a b (Err fault) stays d disk H shows = absurd (d.sound disk (ap Err stays.0) H shows)
 
   -- nothing was handled
   pub none-handled : (held : Held S) (rest : List Request) → HandledFirst [] rest g held held None
@@ -156,12 +164,12 @@ module _ {S : Type 0} (g : Ghosts S) where
         any = looked-any a b (Some fault) met.0;
       }
 
-  module _ (first rest : List Request) (request : Request) (a b m : Held S) (reply : Reply) (h : HandledFirst first rest g a b None)
-      (d : Handles request g b m (Ok reply)) where
+  module _ (first rest : List Request) (request : Request) (a b m : Held S) (answer : Result Reply Fault) (h : HandledFirst first rest g a b None)
+      (stays : LeavesOpen request answer) (d : Handles request g b m answer) where
     -- what the tables show once it is handled
     made-shows : IsClean g m → (H : History) → Shows (state g a) H → Shows (state g m) (after H (first ++ request ∷ []))
     made-shows disk H shows = subst (Shows (state g m)) (sym (after-last first H request))
-        (d.handled.replied disk (after H first) (h.shown (d.handled.clean disk) refl H shows)).1
+        (answered request b m answer stays d.handled disk (after H first) (h.shown (d.handled.clean disk) refl H shows)).1
 
     -- one more was handled, and shown
     pub handled-more : (rest' : List Request) (c : Held S) → LooksOnly g m c (Ok tt) → HandledFirst (first ++ request ∷ []) rest' g a c None
@@ -175,7 +183,7 @@ module _ {S : Type 0} (g : Ghosts S) where
           sound = λ disk e. let never : ⊥ = cc in absurd never;
           undone = λ disk is_open. now disk;
           left = λ disk. tt;
-          any = any-more first request a b m c reply None h.any d.handled (looked-any m c None l);
+          any = any-more first request a b m c answer None h.any stays d.handled (looked-any m c None l);
         }
 
     -- one more was handled, but the board can't show it
@@ -192,7 +200,7 @@ module _ {S : Type 0} (g : Ghosts S) where
           left = λ disk H shows. leaves-first (state g c) (picture (after H (first ++ request ∷ [])))
               (picture (after H ((first ++ request ∷ []) ++ take 1 rest')))
               (looks.left disk (after H (first ++ request ∷ [])) (made-shows (looks.clean disk) H shows));
-          any = any-more first request a b m c reply (Some (Met fault)) h.any d.handled (met-any m c fault l.looked l.looks);
+          any = any-more first request a b m c answer (Some (Met fault)) h.any stays d.handled (met-any m c fault l.looked l.looks);
         }
       where
         stored : IsClean g c → fault ≡ Stored → (H : History) → Shows (state g m) (after H (first ++ request ∷ [])) → (l.looked ≡ Err fault)
@@ -280,7 +288,7 @@ module _ {S : Type 0} (g : Ghosts S) where
       let rest = requests (unhandled n got) in
       let rest' = requests (unhandled m got') in
       let k = submit_more n m got got' s e t.counted (all t.was) in
-      let done = handled-more first rest s.request a b t.made t.reply (subst (HandledFirst first rest g a b) t.was h) t.handles rest' c t.looks in (
+      let done = handled-more first rest s.request a b t.made t.answer (subst (HandledFirst first rest g a b) t.was h) t.stays t.handles rest' c t.looks in (
         omega (arith, k.0),
         (λ none. k.0),
         subst (λ (x : List Request). HandledFirst x rest' g a c after') (sym k.1)
@@ -291,7 +299,7 @@ module _ {S : Type 0} (g : Ghosts S) where
       let rest = requests (unhandled n got) in
       let rest' = requests (unhandled m got') in
       let k = submit_more n m got got' s e t.counted (all t.was) in
-      let done = handled-unshown first rest s.request a b t.made t.reply (subst (HandledFirst first rest g a b) t.was h) t.handles rest' c t.met t.looks in (
+      let done = handled-unshown first rest s.request a b t.made t.answer (subst (HandledFirst first rest g a b) t.was h) t.stays t.handles rest' c t.met t.looks in (
         omega (arith, k.0),
         (λ none. k.0),
         subst (λ (x : List Request). HandledFirst x rest' g a c after') (sym k.1)

@@ -1,6 +1,6 @@
 -- Pages shown by the board are the desk's replies.
-use Rattle.std.proofs.Common.{◌≡◌, ℕ, Bool, true, false, not, cond, List, [], ◌∷◌, ◌++◌, append_assoc, refl, sym, ◌∙◌, ap, subst}
-use Rattle.std.specs.Prelude.{Option, Some, None, option_map, unwrap_or, is_some, bytes_eq, Result, Ok, Err, IfOk, IfErr}
+use Rattle.std.proofs.Common.{◌≡◌, ℕ, Bool, true, false, not, cond, List, [], ◌∷◌, ◌++◌, append_assoc, inl, inr, refl, sym, ◌∙◌, ap, subst}
+use Rattle.std.specs.Prelude.{Option, Some, None, option_map, unwrap_or, is_some, bytes_eq, Result, Ok, Err, IfOk, IfErr, IfSome}
 use Rattle.std.proofs.lemmas.Bool.{eq-eqb}
 use Rattle.terms.specs.declared.command.Caller.{Caller}
 use Rattle.terms.specs.declared.command.Caller.TheVariants.{Desk}
@@ -9,7 +9,9 @@ use Rattle.terms.specs.declared.command.Owner.TheVariants.{Patron}
 use Rattle.terms.specs.declared.command.Command.{Command}
 use Rattle.terms.specs.declared.command.Command.TheVariants.{Page}
 use Rattle.terms.specs.declared.command.Request.{Request}
+use Rattle.terms.specs.declared.fault.Fault.{Fault}
 use Rattle.terms.specs.declared.fault.ServiceFault.{ServiceFault}
+use Rattle.terms.specs.declared.fault.ServiceFault.TheVariants.{Met}
 use Rattle.terms.specs.declared.refusal.Refusal.TheVariants.{UnknownPatron, NotAllowed}
 use Rattle.terms.specs.declared.reply.Reply.{Reply}
 use Rattle.terms.specs.declared.reply.Reply.TheVariants.{Shown, Refused}
@@ -32,11 +34,12 @@ use Rattle.web.specs.declared.asked.Asked.{Asked}
 use Rattle.board.specs.declared.entry.Seen.{Seen}
 use Rattle.board.specs.Showing.{StartsWith, GoesOn, IsTold, requests}
 use Rattle.board.proofs.Beginnings.{goes_self, starts_self}
-use Rattle.board.proofs.Telling.{told-reply}
+use Rattle.board.proofs.Telling.{told-answer}
 use Rattle.hall.specs.declared.closing.Closing.{Closing}
-use Rattle.hall.specs.Serving.{Working, shown_page, page_by_desk, page_asked, IsOwnPage, IsVoid, IsPageSeen, IsReplied, IsReplyFor, IsReplyTo}
+use Rattle.hall.specs.Serving.{Working, shown_page, page_by_desk, page_asked, IsOwnPage, IsVoid, IsPageSeen, IsAnswered, IsReplyFor, IsReplyTo}
 use Rattle.hall.specs.Serving.{IsGivenReply, IsGivenFor, IsGivenTo, IsOwnFault, IsUnsubmitted, IsFaultFor, IsFaultTo}
-use Rattle.hall.specs.Serving.{SubmitsFor, TellsPage, MeetsAsked}
+use Rattle.hall.specs.Serving.{SubmitsFor, TellsPage, TellsSubmitted, MeetsAsked, outcome_of}
+use Rattle.hall.specs.Serving.{answer_to as tells_of}
 
 abbrev asked_page : Option PatronFacts → List ℕ → Reply
 asked_page row text = elim (first_failing ((UnknownPatron, not (is_some row)) ∷ [])) as (λ _. Reply) [ Some refused ↦ Refused refused | None ↦ Shown text ]
@@ -147,32 +150,52 @@ module _ (old : Working) where
         by (Ok reply) h = subst (λ (q : Option ℕ). IsReplyFor q request old new reply) (sym asks) (same, h)
         by (Err fault) h = tt
 
+  -- What was submitted is told by the answer that the board shows.
+  submitted-told : (new : Working) (request : Request) (shown : Result Reply Fault) (told : Answer) → told ≡ tells_of (outcome_of shown)
+      → IsAnswered request old new shown → TellsSubmitted request old new told
+  submitted-told new request (Ok reply) told is answered = record { outcome = Ok reply; answer_is = is; reply = answered; fault = tt }
+  submitted-told new request (Err met) told is answered =
+      record { outcome = Err (Met met); answer_is = is; reply = tt; fault = inr (inr (met, refl, answered)) }
+
+  -- The same where an answer was made of it.
+  pub submitted-if : (new : Working) (request : Request) (shown : Result Reply Fault) (told : Option Answer)
+      → IfSome told (λ a. a ≡ tells_of (outcome_of shown)) → IsAnswered request old new shown → IfSome told (TellsSubmitted request old new)
+  submitted-if new request shown None is answered = tt
+  submitted-if new request shown (Some a) is answered = submitted-told new request shown a is answered
+
 -- ---- what a list of accepted requests makes of it
 
 -- What the board showed by its end is what the list makes it, and the worker has seen a beginning of
 -- that: so its reply is the one that the list gives.
-module _ (H : History) (all : Seen) (told : IsTold H all) (old new : Working) (on : GoesOn all new.seen) (reply : Reply) where
-  pub submission-given : (request : Request) → IsReplied request old new reply → IsGivenReply H old new reply request
-  submission-given request r =
-      let e = r.replied.entry in
-      let here : StartsWith all.entries (r.replied.front ++ e ∷ r.replied.rest) = subst (StartsWith all.entries) r.replied.seen_is on.0 in
-      let at : all.entries ≡ r.replied.front ++ e ∷ (r.replied.rest ++ here.0) = here.1 ∙ append_assoc r.replied.front (e ∷ r.replied.rest) here.0 in
-      record {
-        replied = r;
-        given = sym r.replied.reply_is
-            ∙ (told-reply H all r.replied.front e (r.replied.rest ++ here.0) told at
-            ∙ ap (reply_to (after H (requests r.replied.front))) r.replied.request_is);
-      }
+module _ (H : History) (all : Seen) (told : IsTold H all) (old new : Working) (on : GoesOn all new.seen) where
+  -- The answer is the reply that the list gives in its place.
+  answer-given : (request : Request) (answer : Result Reply Fault) (r : IsAnswered request old new answer)
+      → answer ≡ Ok (reply_to (after H (requests r.answered.front)) request)
+  answer-given request answer r =
+      let e = r.answered.entry in
+      let here : StartsWith all.entries (r.answered.front ++ e ∷ r.answered.rest) = subst (StartsWith all.entries) r.answered.seen_is on.0 in
+      let at : all.entries ≡ r.answered.front ++ e ∷ (r.answered.rest ++ here.0) = here.1 ∙ append_assoc r.answered.front (e ∷ r.answered.rest) here.0 in
+      sym r.answered.answer_is
+      ∙ (told-answer H all r.answered.front e (r.answered.rest ++ here.0) told at
+      ∙ ap (λ (q : Request). Ok (reply_to (after H (requests r.answered.front)) q)) r.answered.request_is)
 
-  seen-page : (patron : ℕ) (shown : Option (List ℕ)) → IsPageSeen patron shown old new reply
+  submission-given : (request : Request) (reply : Reply) → IsAnswered request old new (Ok reply) → IsGivenReply H old new reply request
+  submission-given request reply r = record { answered = r; given = let is = answer-given request (Ok reply) r in cc }
+
+  -- So it is no fault.
+  pub no-fault-shown : (request : Request) (met : Fault) → IsAnswered request old new (Err met) → ⊥
+  no-fault-shown request met r = let is = answer-given request (Err met) r in cc
+
+  seen-page : (patron : ℕ) (shown : Option (List ℕ)) (reply : Reply) → IsPageSeen patron shown old new reply
       → reply ≡ shown_page (own_page (after H (requests new.seen.entries)) patron) shown
-  seen-page patron shown p = p.reply_is ∙ ap (λ o. shown_page o shown) (told.pages new.seen on p.looked patron)
+  seen-page patron shown reply p = p.reply_is ∙ ap (λ o. shown_page o shown) (told.pages new.seen on p.looked patron)
 
-  pub given-to : (a : Asked) → IsReplyTo a old new reply → IsGivenTo H old new reply a
-  given-to Nothing r = r.1
-  given-to (asked.Page patron card_key) r = own-page (after H (requests new.seen.entries)) patron card_key reply (seen-page patron (Some card_key) r.1)
-  given-to (asked.Request request) r = by (page_asked request) refl r
+  pub given-to : (a : Asked) (reply : Reply) → IsReplyTo a old new reply → IsGivenTo H old new reply a
+  given-to Nothing reply r = r.1
+  given-to (asked.Page patron card_key) reply r =
+      own-page (after H (requests new.seen.entries)) patron card_key reply (seen-page patron (Some card_key) reply r.1)
+  given-to (asked.Request request) reply r = by (page_asked request) refl r
     where
       by : (o : Option ℕ) → page_asked request ≡ o → IsReplyFor o request old new reply → IsGivenFor H old new reply o request
-      by None e h = submission-given request h
-      by (Some patron) e h = seen-page patron None h.1 ∙ page-replied (after H (requests new.seen.entries)) request patron e
+      by None e h = submission-given request reply h
+      by (Some patron) e h = seen-page patron None reply h.1 ∙ page-replied (after H (requests new.seen.entries)) request patron e

@@ -5,13 +5,13 @@ use Rattle.std.proofs.lemmas.List.Sums.{sum_by-cons}
 use Rattle.std.proofs.lemmas.List.{map-append}
 use Rattle.std.specs.Prelude.{Result, Ok, Err, IsSome, IfSome, MatchResult}
 use Rattle.terms.specs.declared.command.Request.{Request}
+use Rattle.terms.specs.declared.fault.Fault.{Fault}
 use Rattle.terms.specs.declared.fault.ServiceFault.{ServiceFault}
 use Rattle.terms.specs.declared.reply.Reply.{Reply}
 use Rattle.store.specs.Library.{Ghosts, Held, state, IsClean}
 use Rattle.model.specs.History.{History}
 use Rattle.model.specs.Requests.{after, after_one}
 use Rattle.desk.specs.Answering.{Learns, Shows}
-use Rattle.desk.specs.Running.{HandlesTouching}
 use Rattle.desk.specs.Showing.{own_page}
 use Rattle.desk.specs.declared.showing.OwnPage.{OwnPage}
 use Rattle.board.specs.declared.entry.Entry.{Entry}
@@ -26,10 +26,10 @@ use Rattle.hall.specs.declared.messages.Message.TheVariants.{Submit, Leave}
 use Rattle.hall.specs.Queue.{AreFrom, of, is_open, submissions, own, handled, unhandled, requests, IsNext}
 use Rattle.hall.specs.Openings.{ToldBy}
 use Rattle.hall.specs.Handling.{submission_of, AreShown, ShowsAfter, PutsPages, IsDue, HandledFirst, TakesNext, ClosedBy, MayHandle}
-use Rattle.hall.specs.Handling.{MayTake, ShowsNext, TakesMessage, BoardShows, StandsOpen, Finishes, shown_by}
+use Rattle.hall.specs.Handling.{MayTake, ShowsNext, TakesMessage, BoardShows, StandsOpen, Finishes, AnswersTouching, shown_by}
 use Rattle.hall.proofs.HandledLists.{submissions_of, submissions-append, all_of, leave_kept, rest_kept, no_rest}
 use Rattle.hall.proofs.Pages.{no-page-before}
-use Rattle.hall.proofs.Progress.{after-last, submission-kept}
+use Rattle.hall.proofs.Progress.{after-last, answered, submission-kept}
 use Rattle.hall.proofs.Causes.{open-shows, closed-shows, cause-left, cause-kept}
 
 own-count : (w : ℕ) (es : List Entry) → count_own w es ≡ length (own w (map submission_of es))
@@ -81,37 +81,38 @@ board-kept lists g c n m before after' got got' s (Err w) (Err v) e all all' sho
 
 module _ {S : Type 0} (g : Ghosts S) (lists : History → Type 0) where
   -- a submission that was handled is due to be shown
-  pub is-due : (old made : Held S) (shown : Seen) (s : Submission) (reply : Reply) (touched : List ℕ) → s.number ≡ count_own s.worker shown.entries + 1
-      → ToldBy lists g old shown → ShowsAfter lists g old (entry_requests shown.entries)
-      → HandlesTouching s.request g old made (Ok (reply, touched)) → IsDue lists g made shown s reply touched
-  is-due old made shown s reply touched number told list handles =
-      let was : IsClean g made → IsClean g old = handles.handles.handled.clean in
+  pub is-due : (old made : Held S) (shown : Seen) (s : Submission) (answer : Result Reply Fault) (touched : List ℕ)
+      → s.number ≡ count_own s.worker shown.entries + 1 → ToldBy lists g old shown → ShowsAfter lists g old (entry_requests shown.entries)
+      → AnswersTouching s.request g old made answer touched → IsDue lists g made shown s answer touched
+  is-due old made shown s answer touched number told list answers =
+      let was : IsClean g made → IsClean g old = answers.handles.handled.clean in
       record {
+        stays = answers.stays;
         number = number;
         told = λ disk H first. told (was disk) H first;
         given = λ disk H first.
             let K : History = after H (entry_requests shown.entries) in
             let at : Shows (state g old) K = list (was disk) H first in
-            let replied = handles.handles.handled.replied disk K at in
-            record { reply_is = replied.0; shows = replied.1; kept = λ p out. handles.kept disk K at p out };
+            let replied = answered g s.request old made answer answers.stays answers.handles.handled disk K at in
+            record { answer_is = replied.0; shows = replied.1; kept = λ p out. answers.kept disk K at p out };
       }
 
   -- one that is due may be shown
-  pub may-follow : (desk : Held S) (shown now : Seen) (s : Submission) (reply : Reply) (touched : List ℕ) → is_worker s.worker ≡ true
-      → IsDue lists g desk shown s reply touched → now ≡ shown
-      → IsNextEntry now.entries (record { worker = s.worker; number = s.number; request = s.request; reply = reply })
-  may-follow desk shown now s reply touched worker due same =
-      let e : Entry = record { worker = s.worker; number = s.number; request = s.request; reply = reply } in
-      let next : IsNextEntry shown.entries e = record { worker = worker; number = due.number } in
+  pub may-follow : (desk : Held S) (shown now : Seen) (s : Submission) (answer : Result Reply Fault) (touched : List ℕ) → is_worker s.worker ≡ true
+      → IsDue lists g desk shown s answer touched → now ≡ shown
+      → IsNextEntry now.entries (record { worker = s.worker; number = s.number; request = s.request; answer = answer })
+  may-follow desk shown now s answer touched worker due same =
+      let e : Entry = record { worker = s.worker; number = s.number; request = s.request; answer = answer } in
+      let next : IsNextEntry shown.entries e = record { worker = worker; number = due.number; stays = due.stays } in
       subst (λ (l : Seen). IsNextEntry l.entries e) (sym same) next
 
   -- what is shown with it, once its pages are looked up, is what the list makes it
-  pub told-next : (desk now : Held S) (shown next : Seen) (s : Submission) (reply : Reply) (touched : List ℕ)
-      (before put : List (ℕ × OwnPage)) → IsDue lists g desk shown s reply touched → before ≡ []
+  pub told-next : (desk now : Held S) (shown next : Seen) (s : Submission) (answer : Result Reply Fault) (touched : List ℕ)
+      (before put : List (ℕ × OwnPage)) → IsDue lists g desk shown s answer touched → before ≡ []
       → Learns {A = Unit {0}} (λ H _. PutsPages touched before put H) g desk now (Ok tt)
-      → ShowsMore shown put (record { worker = s.worker; number = s.number; request = s.request; reply = reply }) next → ToldBy lists g now next
-  told-next desk now shown next s reply touched before put due blank learnt more disk H first =
-      let e : Entry = record { worker = s.worker; number = s.number; request = s.request; reply = reply } in
+      → ShowsMore shown put (record { worker = s.worker; number = s.number; request = s.request; answer = answer }) next → ToldBy lists g now next
+  told-next desk now shown next s answer touched before put due blank learnt more disk H first =
+      let e : Entry = record { worker = s.worker; number = s.number; request = s.request; answer = answer } in
       let was : IsClean g desk = learnt.looks.clean disk in
       let K : History = after H (entry_requests shown.entries) in
       let J : History = after_one K s.request in
@@ -119,7 +120,7 @@ module _ {S : Type 0} (g : Ghosts S) (lists : History → Type 0) where
       let list-is : after H (entry_requests (shown.entries ++ e ∷ [])) ≡ J =
       ap (after H) (map-append (λ (d : Entry). d.request) shown.entries (e ∷ [])) ∙ after-last (entry_requests shown.entries) H s.request in
       let puts : PutsPages touched [] put J = subst (λ (l : List (ℕ × OwnPage)). PutsPages touched l put J) blank (learnt.shown disk J given.shows tt) in
-      told-more H shown next put e (due.told was H first) more given.reply_is
+      told-more H shown next put e (due.told was H first) more given.answer_is
       (λ q. puts q (own_page K q) (no-page-before K s.request q) (λ out. sym (given.kept q out)) ∙ ap (λ (L : History). own_page L q) (sym list-is))
 
   -- the tables show each list with the requests, as far as the board shows them

@@ -18,7 +18,7 @@ use Rattle.desk.specs.declared.showing.OwnPage.{OwnPage}
 use Rattle.board.specs.Rule.{Publishing, Stopped}
 use Rattle.board.specs.declared.entry.Entry.{Entry}
 use Rattle.board.specs.declared.entry.Seen.{Seen}
-use Rattle.board.specs.Showing.{count_own, overlaid, requests as entry_requests}
+use Rattle.board.specs.Showing.{count_own, overlaid, LeavesOpen, requests as entry_requests}
 use Rattle.hall.specs.declared.messages.Submission.{Submission}
 use Rattle.hall.specs.Openings.{LooksOnly, MeetsFaultOf, ToldBy}
 use Rattle.hall.specs.declared.messages.Message.{Message}
@@ -40,8 +40,8 @@ pub record LooksAny {S : Type 0} (g : Ghosts S) (old new : Held S) (fault : Opti
 abbrev pub HandledAny : {S : Type 0} → Ghosts S → List Request → Held S → Held S → Option ServiceFault → Type 0
 HandledAny g [] old new fault = LooksAny g old new fault
 HandledAny {S} g (r ∷ rs) old new fault =
-    (from : Held S) × (made : Held S) × (reply : Reply) × LooksAny g old from None
-    × Handled r g from made (Ok reply) × HandledAny g rs made new fault
+    (from : Held S) × (made : Held S) × (answer : Result Reply Fault) × LooksAny g old from None
+    × LeavesOpen r answer × Handled r g from made answer × HandledAny g rs made new fault
 
 -- ---- the requests that were handled
 
@@ -70,15 +70,24 @@ pub record HandledFirst {S : Type 0} (first rest : List Request)
 
 -- ---- one more submission
 
+-- The desk answered a request, and more may be handled. The pages of all patrons but these are unchanged.
+pub record AnswersTouching {S : Type 0} (request : Request)
+    (g : Ghosts S) (old new : Held S) (answer : Result Reply Fault) (touched : List ℕ) : Type 0 where
+  pub stays : LeavesOpen request answer
+  pub handles : Handles request g old new answer
+  pub kept : IsClean g new → (H : History) → Shows (state g old) H → (p : ℕ)
+      → list_any (λ q. q == p) touched ≡ false → own_page (after_one H request) p ≡ own_page H p
+
 -- It was handled, and then pages were looked up to be shown.
 pub record IsHandled {S : Type 0} (request : Request)
     (g : Ghosts S) (old new : Held S) (n m : ℕ) (before after : Option ServiceFault) : Type 0 where
   pub was : before ≡ None
   pub is : after ≡ None
   pub counted : m ≡ n + 1
-  pub reply : Reply
+  pub answer : Result Reply Fault
+  pub stays : LeavesOpen request answer
   pub made : Held S
-  pub handles : Handles request g old made (Ok reply)
+  pub handles : Handles request g old made answer
   pub looks : LooksOnly g made new (Ok tt)
 
 -- It was handled, but the board can't show it, which closes the hall: memory ran out, or a page could not be
@@ -89,24 +98,27 @@ pub record IsUnshown {S : Type 0} (request : Request)
   pub met : Fault
   pub is : after ≡ Some (Met met)
   pub counted : m ≡ n + 1
-  pub reply : Reply
+  pub answer : Result Reply Fault
+  pub stays : LeavesOpen request answer
   pub made : Held S
-  pub handles : Handles request g old made (Ok reply)
+  pub handles : Handles request g old made answer
   pub looks : MeetsFaultOf g made new met
 
--- It met a fault, which closes the hall.
+-- It met a fault, which closes the hall: not 93 to a request that only asks.
 pub record MeetsFault {S : Type 0} (request : Request)
     (g : Ghosts S) (old new : Held S) (n m : ℕ) (before after : Option ServiceFault) : Type 0 where
   pub was : before ≡ None
   pub met : Fault
   pub is : after ≡ Some (Met met)
   pub counted : m ≡ n
+  pub closes : ¬ LeavesOpen request (Err met)
   pub handles : Handles request g old new (Err met)
 
--- A request wasn't handled: the desk met a fault, or no more can be counted and the desk wasn't asked.
+-- A request wasn't handled: the desk met a fault after which no more may be handled, or no more can be counted
+-- and the desk wasn't asked.
 abbrev pub IsUnhandled : {S : Type 0} → Request → Ghosts S → Held S → Held S → ℕ → ServiceFault → Type 0
 IsUnhandled request g old new n fault =
-    ((met : Fault) × (fault ≡ Met met) × Handles request g old new (Err met))
+    ((met : Fault) × (fault ≡ Met met) × (¬ LeavesOpen request (Err met)) × Handles request g old new (Err met))
     ⊎ ((fault ≡ Closed) × (2 ^ 64 ≤ n + 1) × (new ≡ old))
 
 -- The hall was already closed, or closes because it can't count further: nothing was asked of the desk.
@@ -158,6 +170,7 @@ module _ {S : Type 0} (n : ℕ) (got : List Message) (g : Ghosts S) (old new : H
     pub rest_is : requests (unhandled n got) ≡ next ∷ later
     pub met : Fault
     pub is : fault ≡ Met met
+    pub closes : ¬ LeavesOpen next (Err met)
     pub handles : Handles next g before new (Err met)
     pub shown : AreShown entries (handled n got)
 
@@ -197,24 +210,25 @@ abbrev pub ShowsAfter : {S : Type 0} → (History → Type 0) → Ghosts S → H
 ShowsAfter lists g held requests = IsClean g held → (H : History) → lists H
     → Shows (state g held) (after H requests)
 
--- What a list of accepted requests makes of a submission: this reply, and unchanged pages for all patrons but
--- these; the tables show the list with it.
+-- What a list of accepted requests makes of a submission: its reply as this answer, and unchanged pages for
+-- all patrons but these; the tables show the list with it.
 pub record IsGivenBy {S : Type 0} (g : Ghosts S) (desk : Held S) (H : History) (request : Request)
-    (reply : Reply) (touched : List ℕ) : Type 0 where
-  pub reply_is : reply ≡ reply_to H request
+    (answer : Result Reply Fault) (touched : List ℕ) : Type 0 where
+  pub answer_is : answer ≡ Ok (reply_to H request)
   pub shows : Shows (state g desk) (after_one H request)
   pub kept : (p : ℕ) → list_any (λ q. q == p) touched ≡ false
       → own_page (after_one H request) p ≡ own_page H p
 
--- The submission was handled with this reply, and the board shows everything before it: it has its worker's
--- next number. If the disk has returned what was written to it, each of these lists gave what was shown, and
--- gives the reply.
+-- The submission was handled with this answer, after which more may be handled, and the board shows everything
+-- before it: it has its worker's next number. If the disk has returned what was written to it, each of these
+-- lists gave what was shown, and gives the answer.
 pub record IsDue {S : Type 0} (lists : History → Type 0) (g : Ghosts S) (desk : Held S)
-    (shown : Seen) (s : Submission) (reply : Reply) (touched : List ℕ) : Type 0 where
+    (shown : Seen) (s : Submission) (answer : Result Reply Fault) (touched : List ℕ) : Type 0 where
+  pub stays : LeavesOpen s.request answer
   pub number : s.number ≡ count_own s.worker shown.entries + 1
   pub told : ToldBy lists g desk shown
   pub given : IsClean g desk → (H : History) → lists H
-      → IsGivenBy g desk (after H (entry_requests shown.entries)) s.request reply touched
+      → IsGivenBy g desk (after H (entry_requests shown.entries)) s.request answer touched
 
 -- The submission may be handled next: the board shows all handled ones, with nothing waiting to be shown, and
 -- this one has its worker's next number.

@@ -9,6 +9,7 @@ use Rattle.terms.specs.declared.command.Caller.TheVariants.{Desk}
 use Rattle.terms.specs.declared.command.Command.{Command}
 use Rattle.terms.specs.declared.command.Command.TheVariants.{Page as AsksPage, SetCardKey}
 use Rattle.terms.specs.declared.command.Request.{Request as Requested}
+use Rattle.terms.specs.declared.fault.Fault.{Fault}
 use Rattle.terms.specs.declared.fault.Fault.TheVariants.{Memory}
 use Rattle.terms.specs.declared.fault.ServiceFault.{ServiceFault}
 use Rattle.terms.specs.declared.fault.ServiceFault.TheVariants.{Met, Closed}
@@ -34,7 +35,7 @@ use Rattle.web.specs.declared.fault.WebStatus.{WebStatus}
 use Rattle.web.specs.declared.request.WebRequest.{WebRequest}
 use Rattle.board.specs.declared.entry.Seen.{Seen}
 use Rattle.board.specs.Rule.{nothing_seen}
-use Rattle.board.specs.Showing.{StartsWith, GoesOn, HasLooked, IsReply, page_of, requests}
+use Rattle.board.specs.Showing.{StartsWith, GoesOn, HasLooked, IsAnswer, page_of, requests}
 use Rattle.hall.specs.declared.messages.TheConstants.{LAST_SUBMISSION}
 use Rattle.hall.specs.declared.messages.Message.{Message}
 use Rattle.hall.specs.declared.messages.Message.TheVariants.{Submit}
@@ -105,18 +106,18 @@ pub record IsPageSeen (patron : ℕ) (shown : Option (List ℕ)) (old new : Work
   pub looked : HasLooked new.seen
   pub reply_is : reply ≡ shown_page (page_of new.seen patron) shown
 
--- The reply to a request not answered from the board: it was submitted, and the board shows this reply for
--- it. The beginning of the handled list that the board shows, ending with the submission, extends all that
--- the worker had seen before.
-pub record IsReplied (request : Requested) (old new : Working) (reply : Reply) : Type 0 where
+-- The answer to a request not answered from the board's pages: it was submitted, and the board shows this
+-- answer to it. The beginning of the handled list that the board shows, ending with the submission, extends all
+-- that the worker had seen before.
+pub record IsAnswered (request : Requested) (old new : Working) (answer : Result Reply Fault) : Type 0 where
   pub submits : Submits old.post new.post request
-  pub replied : IsReply new.seen.entries old.post.worker (length old.post.sent + 1) request reply
-  pub later : StartsWith replied.front old.seen.entries
+  pub answered : IsAnswer new.seen.entries old.post.worker (length old.post.sent + 1) request answer
+  pub later : StartsWith answered.front old.seen.entries
 
 -- The reply to the desk's request for a page, or to anybody's request for something else.
 abbrev pub IsReplyFor : Option ℕ → Requested → Working → Working → Reply → Type 0
 IsReplyFor (Some patron) request old new reply = (new.post ≡ old.post) × IsPageSeen patron None old new reply
-IsReplyFor None request old new reply = IsReplied request old new reply
+IsReplyFor None request old new reply = IsAnswered request old new (Ok reply)
 
 -- The reply to what is asked for. A page is the one that the board shows with what the worker has seen, a
 -- beginning of the handled list.
@@ -138,6 +139,11 @@ SubmitsAsked _ old new = new ≡ old
 
 -- ---- what is answered
 
+-- What became of a request that the board shows.
+abbrev pub outcome_of : Result Reply Fault → Result Reply ServiceFault
+outcome_of (Ok reply) = Ok reply
+outcome_of (Err met) = Err (Met met)
+
 -- The answer that says what became of a request.
 abbrev pub answer_to : Result Reply ServiceFault → Answer
 answer_to (Ok reply) = answer_for reply
@@ -152,13 +158,15 @@ IsOwnFault fault = (fault ≡ Met Memory) ⊎ (fault ≡ Closed)
 abbrev pub IsUnsubmitted : Working → Working → ServiceFault → Type 0
 IsUnsubmitted old new fault = (new.post ≡ old.post) × IsOwnFault fault
 
--- The fault instead of a reply to a request not answered from the board: that of a worker that submitted
--- nothing, or what the closing of the hall tells of the submission.
+-- The fault instead of a reply to a request not answered from the board's pages: that of a worker that
+-- submitted nothing, what the closing of the hall tells of the submission, or the one that the board shows for
+-- it, which is 93 to a request that only asks.
 abbrev pub IsFaultOf : Requested → Working → Working → ServiceFault → Type 0
 IsFaultOf request old new fault =
     IsUnsubmitted old new fault
-    ⊎ (Submits old.post new.post request
+    ⊎ ((Submits old.post new.post request
     × (told_of new.closing old.post.worker (length old.post.sent + 1) ≡ Some fault))
+    ⊎ ((met : Fault) × (fault ≡ Met met) × IsAnswered request old new (Err met)))
 
 -- The fault instead of a reply to the desk's request for a page, or to anybody's request for something else.
 abbrev pub IsFaultFor : Option ℕ → Requested → Working → Working → ServiceFault → Type 0
@@ -188,7 +196,7 @@ pub record TellsReply (asked : Asked) (old new : Working) (answer : Answer) : Ty
 pub record TellsSubmitted (request : Requested) (old new : Working) (answer : Answer) : Type 0 where
   pub outcome : Result Reply ServiceFault
   pub answer_is : answer ≡ answer_to outcome
-  pub reply : IfOk outcome (IsReplied request old new)
+  pub reply : IfOk outcome (λ reply. IsAnswered request old new (Ok reply))
   pub fault : IfErr outcome (IsFaultOf request old new)
 
 -- The same for a page.
@@ -279,8 +287,8 @@ pub record IsOwnPage (patron : ℕ) (card_key : List ℕ) (H : History) (reply :
 module _ (H : History) (old new : Working) (reply : Reply) where
   -- to a submission: its place comes after all that the worker had seen before it
   pub record IsGivenReply (request : Requested) : Type 0 where
-    pub replied : IsReplied request old new reply
-    pub given : reply ≡ reply_to (after H (requests replied.replied.front)) request
+    pub answered : IsAnswered request old new (Ok reply)
+    pub given : reply ≡ reply_to (after H (requests answered.answered.front)) request
 
   -- to the desk's request for a page, or anybody's for something else
   abbrev pub IsGivenFor : Option ℕ → Requested → Type 0
@@ -293,12 +301,16 @@ module _ (H : History) (old new : Working) (reply : Reply) where
   IsGivenTo (Page patron card_key) = IsOwnPage patron card_key (after H (requests new.seen.entries)) reply
   IsGivenTo (Request request) = IsGivenFor (page_asked request) request
 
+-- The list H of accepted requests gives what the worker answers: each reply, and no fault to what it submitted.
+pub record GivesAnswers (H : History) (old new : Working) : Type 0 where
+  pub reply : (asked : Asked) (reply : Reply) → IsReplyTo asked old new reply → IsGivenTo H old new reply asked
+  pub never : (request : Requested) (met : Fault) → ¬ IsAnswered request old new (Err met)
+
 -- If the disk has returned what was written to it so far, each of these lists of accepted requests gives what
 -- a worker answers that has seen a beginning of all that was shown.
 abbrev pub GivesReplies : {S : Type 0} → (History → Type 0) → Ghosts S → Held S → Seen → Type 0
 GivesReplies lists g held all = IsClean g held → (H : History) → lists H
-    → (asked : Asked) (old new : Working) (reply : Reply) → GoesOn all new.seen
-    → IsReplyTo asked old new reply → IsGivenTo H old new reply asked
+    → (old new : Working) → GoesOn all new.seen → GivesAnswers H old new
 
 -- The worker, which has left, took part in a hall that received `got` and handled its first n submissions:
 -- the worker's are a beginning of what it submitted, and what it had seen is a beginning of all that was

@@ -1,18 +1,19 @@
 //! The desk's side.
 
 ghost use Rattle.std.specs.Prelude.{◌≡◌, ◌+◌, ◌++◌, ◌∷◌, ◌<◌, ◌≤◌, ◌⊎◌, ℕ, true, false, [], map};
-ghost use Rattle.std.specs.Prelude.{None, Some, Ok, IsSome, IsTrue, slice_index_or, MatchResult};
-ghost use Rattle.std.specs.Prelude.{MatchOption};
+ghost use Rattle.std.specs.Prelude.{None, Some, Ok, Err, IsSome, IsTrue, slice_index_or};
+ghost use Rattle.std.specs.Prelude.{MatchResult, MatchOption, MatchBool};
 ghost use Rattle.desk.specs.Answering.{Learns};
-ghost use Rattle.desk.specs.Running.{HandlesTouching};
 ghost use Rattle.hall_schedule.specs.declared.schedule.TheConstants.{WORKERS};
 ghost use Rattle.store.specs.Limits.{limit_of};
 ghost use Rattle.board.specs.Rule.{ShowsAll};
+ghost use Rattle.board.specs.Showing.{LeavesOpen};
+ghost use Rattle.model.specs.Requests.{only_asks};
 ghost use Rattle.hall.specs.Queue.{IsHearing};
 ghost use Rattle.hall.specs.Openings.{LooksOnly, MeetsFaultOf, ToldBy, OpensWith};
 ghost use Rattle.hall.specs.Handling.{TakesNext, IsUnhandled, Finishes, PutsPages, IsDue};
 ghost use Rattle.hall.specs.Handling.{MayBeNext, ShowsNext, AreShown, submission_of, shown_by};
-ghost use Rattle.hall.specs.Handling.{MayHandle, MayTake, TakesMessage};
+ghost use Rattle.hall.specs.Handling.{MayHandle, MayTake, TakesMessage, AnswersTouching};
 ghost use Rattle.hall.specs.Closings.{TellsClosing, TellsNext, TellsMessage, HasTold};
 ghost use Rattle.hall.specs.Serving.{GivesReplies};
 ghost use Rattle.hall.specs.declared.messages.Message.TheVariants.{Leave};
@@ -30,7 +31,7 @@ use sqlite::Alter;
 use std::alloc::Global;
 use std::sync::Wait;
 use std::thread;
-use terms::{Fault, PatronId, Reply, Request, ServiceFault};
+use terms::{Command, Fault, PatronId, Reply, Request, ServiceFault};
 
 /// The desk's side of a hall, for the thread that owns the database. It is not `Drop`: end it with
 /// `desk_loop`.
@@ -102,6 +103,21 @@ fn put_pages<J: Opening, S: Alter>(
     Ok(())
 }
 
+/// Returns whether a command only asks, and so changes nothing.
+fn only_asks(command: &Command) -> bool
+    ensures { result ≡ only_asks command.now }
+{
+    matches!(command, Command::Page { .. } | Command::Ask(_))
+}
+
+/// Returns whether more may be handled after this fault: 93 to a request that only asks.
+fn stays_open(request: &Request, met: Fault) -> bool
+    ensures { MatchBool result
+        (LeavesOpen request.now (Err met)) (¬ LeavesOpen request.now (Err met)) }
+{
+    matches!(met, Fault::Stored) && only_asks(&request.command)
+}
+
 /// Shows a handled submission, with the pages that it may have changed.
 fn show<J: Opening, S: Alter, R: Wait>(
     rt: &R,
@@ -109,17 +125,18 @@ fn show<J: Opening, S: Alter, R: Wait>(
     desk: &mut Desk<S>,
     publisher: Publisher<J>,
     submission: Submission,
-    reply: Reply,
+    answer: Result<Reply, Fault>,
     touched: &Touched,
 ) -> Result<Publisher<J>, (StoppedBoard<J>, Fault)>
     requires blank { publisher.pages ≡ [] }
-    requires due { IsDue J.shows S.Store desk.old publisher.shown submission reply touched.now }
+    requires due { IsDue J.shows S.Store desk.old publisher.shown submission answer
+        touched.now }
     ensures { MatchResult result
         (λ p. (p.shown.entries ≡ publisher.shown.entries ++ (record {
           worker = submission.worker;
           number = submission.number;
           request = submission.request;
-          reply = reply;
+          answer = answer;
         }) ∷ [])
         × (p.pages ≡ []) × LooksOnly S.Store desk.old desk.new (Ok tt)
         × ToldBy J.shows S.Store desk.new p.shown)
@@ -139,7 +156,7 @@ fn show<J: Opening, S: Alter, R: Wait>(
         worker,
         number,
         request,
-        reply,
+        answer,
     };
     match publisher.publish(rt, alloc, entry) {
         Ok(publisher) => Ok(publisher),
@@ -148,13 +165,18 @@ fn show<J: Opening, S: Alter, R: Wait>(
 }
 
 impl<J: Opening, S: Alter> Handling<J, S> {
-    /// Handles a request and counts it. Faults 90, 91 and 93 as the desk gives them; 92 after
-    /// 2^64 - 1 requests, and then the desk is not asked.
-    fn handle(&mut self, alloc: Global, request: &Request) -> Result<(Reply, Touched), ServiceFault>
+    /// Handles a request and counts it. The answer is the reply, or 93 to a request that only asks
+    /// and met a damaged row: no other one's. Other faults: 90, 91 and 93 as the desk gives them; 92
+    /// after 2^64 - 1 requests, and then the desk is not asked.
+    fn handle(
+        &mut self,
+        alloc: Global,
+        request: &Request,
+    ) -> Result<(Result<Reply, Fault>, Touched), ServiceFault>
         ensures same { (self.new.teller ≡ self.old.teller) × (self.new.fault ≡ self.old.fault) }
         ensures handles { MatchResult result
-            (λ made. (self.new.handled ≡ self.old.handled + 1) × HandlesTouching request.now
-            S.Store self.old.desk self.new.desk (Ok made))
+            (λ made. (self.new.handled ≡ self.old.handled + 1) × AnswersTouching request.now
+            S.Store self.old.desk self.new.desk made.0 made.1)
             (λ fault. (self.new.handled ≡ self.old.handled) × IsUnhandled request.now
             S.Store self.old.desk self.new.desk self.old.handled fault) }
     {
@@ -162,11 +184,18 @@ impl<J: Opening, S: Alter> Handling<J, S> {
             return Err(ServiceFault::Closed);
         }
         match self.desk.handle_touching(alloc, request) {
-            Ok(made) => {
+            Ok((reply, touched)) => {
                 self.handled += 1;
-                Ok(made)
+                Ok((Ok(reply), touched))
             }
-            Err(met) => Err(ServiceFault::Met(met)),
+            Err(met) => {
+                if stays_open(request, met) {
+                    self.handled += 1;
+                    Ok((Err(met), Touched::none(alloc)))
+                } else {
+                    Err(ServiceFault::Met(met))
+                }
+            }
         }
     }
 
@@ -192,8 +221,8 @@ impl<J: Opening, S: Alter> Handling<J, S> {
         self.fault = Some(fault);
     }
 
-    /// Handles and shows a submission. A fault closes the hall: the worker is told why the
-    /// submission has no reply, and the watch is told of the closing.
+    /// Handles and shows a submission. A fault that isn't shown as its answer closes the hall: the
+    /// worker is told why the submission has no answer, and the watch is told of the closing.
     fn handle_next<R: Wait, N: Watch>(
         &mut self,
         rt: &R,
@@ -218,7 +247,7 @@ impl<J: Opening, S: Alter> Handling<J, S> {
     {
         let worker = submission.worker;
         let number = submission.number;
-        let (reply, touched) = match self.handle(alloc, submission.request.get()) {
+        let (answer, touched) = match self.handle(alloc, submission.request.get()) {
             Ok(made) => made,
             Err(fault) => {
                 self.close(rt, watch, worker, number, fault, fault);
@@ -226,7 +255,7 @@ impl<J: Opening, S: Alter> Handling<J, S> {
             }
         };
         let desk = &mut self.desk;
-        match show(rt, alloc, desk, publisher, submission, reply, &touched) {
+        match show(rt, alloc, desk, publisher, submission, answer, &touched) {
             Ok(publisher) => {
                 self.teller.wake(worker);
                 Ok(publisher)
@@ -323,7 +352,8 @@ impl<J: Opening, S: Alter> DeskSide<J, S> {
     /// returns the desk. Each handled submission is shown on the board, with the pages that it may
     /// have changed, before the next is handled.
     ///
-    /// A fault of the desk closes the hall: the worker whose request met it is told that fault, and
+    /// A request that only asks and meets a damaged row is answered 93, and the next is handled. Any
+    /// other fault of the desk closes the hall: the worker whose request met it is told that fault, and
     /// for every other submission, waiting or later, its worker is told 92. So does a board that
     /// can't show what was handled, because memory ran out or a page could not be had: then all are
     /// told 92. The loop still runs until every worker has left, and returns the fault. So the hall

@@ -6,14 +6,14 @@ ghost use Rattle.std.specs.Prelude.{option_map};
 ghost use Rattle.std.specs.Arc.{arc_value};
 ghost use Rattle.terms.specs.Writing.{Writes};
 ghost use Rattle.web.specs.Answers.{answer_bytes, answer_for};
-ghost use Rattle.board.specs.Showing.{StartsWith, GoesOn, IsReply, count_own};
+ghost use Rattle.board.specs.Showing.{StartsWith, GoesOn, IsAnswer, count_own};
 ghost use Rattle.hall.specs.declared.messages.Message.TheVariants.{Leave};
 ghost use Rattle.terms.specs.declared.fault.ServiceFault.TheVariants.{Closed};
 ghost use Rattle.hall.specs.Closings.{told_of};
 ghost use Rattle.hall.specs.Queue.{IsSending, sent_more, worker_view};
 ghost use Rattle.hall.specs.Serving.{Submits, SubmitsOnce, page_asked, MeetsAsked, ServesFrom};
-ghost use Rattle.hall.specs.Serving.{IsReplied, TellsSubmitted, TellsPage, shown_page};
-ghost use Rattle.hall.specs.Serving.{IfTold, IsFaultOf};
+ghost use Rattle.hall.specs.Serving.{IsAnswered, TellsSubmitted, TellsPage, shown_page};
+ghost use Rattle.hall.specs.Serving.{IfTold, IsFaultOf, answer_to, outcome_of};
 
 use crate::closing::KnownClosing;
 use crate::messages::{LAST_SUBMISSION, Message, Submission};
@@ -113,8 +113,8 @@ fn await_entry<J: Opening, R: Wait>(
     ensures closing { StartsWith closing.new closing.old }
     ensures told { IfErr result (IfTold
         (λ fault. told_of closing.new worker number ≡ Some fault)) }
-    ensures found { IfOk result (λ entry. IsReply window.new.seen.entries worker number request.now
-        (arc_value entry).reply) }
+    ensures found { IfOk result (λ entry. IsAnswer window.new.seen.entries worker number request.now
+        (arc_value entry).answer) }
 {
     'looks: for _ in rt.forever() {
         match window.entry(worker, number, request) {
@@ -166,6 +166,19 @@ fn page_answer(
         (None, Some(_)) => Ok(Answer::Refused(Refusal::NotAllowed)),
         (Some(page), None) => Answer::reply(alloc, &page.reply),
         (None, None) => Ok(Answer::Refused(Refusal::UnknownPatron)),
+    }
+}
+
+/// Makes the answer that an entry shows. None if no memory is left for it.
+fn answer_of(alloc: Global, entry: &Entry) -> Option<Answer>
+    ensures { IfSome result (λ answer. answer ≡ answer_to (outcome_of entry.now.answer)) }
+{
+    match &entry.answer {
+        Ok(reply) => match Answer::reply(alloc, reply) {
+            Ok(answer) => Some(answer),
+            Err(_) => None,
+        },
+        Err(met) => Some(Answer::Faulted(ServiceFault::Met(*met))),
     }
 }
 
@@ -288,8 +301,8 @@ impl<J: Opening> Worker<J> {
         ensures closing { StartsWith self.new.closing self.old.closing }
         ensures told { IfErr result (IfTold (λ fault. told_of self.new.closing
             self.old.post.worker (length self.old.post.sent) ≡ Some fault)) }
-        ensures found { IfOk result (λ entry. IsReply self.new.seen.entries
-            self.old.post.worker (length self.old.post.sent) request (arc_value entry).reply) }
+        ensures found { IfOk result (λ entry. IsAnswer self.new.seen.entries
+            self.old.post.worker (length self.old.post.sent) request (arc_value entry).answer) }
     {
         let found = await_entry(
             rt,
@@ -315,8 +328,8 @@ impl<J: Opening> Worker<J> {
         ensures on { GoesOn self.new.seen self.old.seen }
         ensures closing { StartsWith self.new.closing self.old.closing }
         ensures once { SubmitsOnce self.old.post self.new.post request }
-        ensures found { IfOk result (λ entry. IsReplied request self.old self.new
-            (arc_value entry).reply) }
+        ensures found { IfOk result (λ entry. IsAnswered request self.old self.new
+            (arc_value entry).answer) }
         ensures fault { IfErr result (IfTold (IsFaultOf request self.old self.new)) }
     {
         match self.catch_up(rt) {
@@ -351,10 +364,7 @@ impl<J: Opening> Worker<J> {
         ensures told { IfSome result (TellsSubmitted request self.old self.new) }
     {
         match self.ask(rt, alloc, request) {
-            Ok(entry) => match Answer::reply(alloc, &entry.reply) {
-                Ok(answer) => Some(answer),
-                Err(_) => None,
-            },
+            Ok(entry) => answer_of(alloc, &entry),
             Err(NoReply::Told(fault)) => Some(Answer::Faulted(fault)),
             Err(NoReply::Gone) | Err(NoReply::Untold) => None,
         }
@@ -406,8 +416,8 @@ impl<J: Opening> Worker<J> {
     /// it, and 92 if the board is gone. Any other request is submitted, and its reply comes from
     /// the board once the desk has handled it. If it wasn't submitted, the answer is 90 or 92: no
     /// memory was left before, or the hall is closed, or the worker's numbers are used up. Once
-    /// submitted, 90 to 93: the fault that it met, or 92 if the hall closed at another one or can't
-    /// show it. The connection breaks if a read or write fails, no memory is left for the answer,
+    /// submitted, 90 to 93: the fault that it met, which is 93 where it only asks and the hall stays
+    /// open, or 92 if the hall closed at another one or can't show it. The connection breaks if a read or write fails, no memory is left for the answer,
     /// or the board is gone after submitting: then nothing or a prefix of the answer went out. If
     /// there is no memory to read the request, or there was none for the routes, the answer is
     /// fault 90. Nothing is read after the request, the end of the input or a failed read.

@@ -1,7 +1,7 @@
 //! Comparing requests, worker numbers, and boards from opening to end.
 
 ghost use Rattle.std.specs.Prelude.{◌≡◌, ◌+◌, ◌++◌, [], ◌∷◌, IfOk, IfSome};
-ghost use Rattle.board.specs.Showing.{count_own};
+ghost use Rattle.board.specs.Showing.{LeavesOpen, count_own};
 
 use board::{Blank, Entry, First, Naming, Publisher, ReadError, SharedRequest, Window, WorkerId};
 use desk::OwnPage;
@@ -196,7 +196,8 @@ fn show<J: Naming, R: Wait>(
     publisher: Publisher<J>,
     entry: Entry,
 ) -> Option<Publisher<J>>
-    requires { entry.number ≡ count_own entry.worker publisher.shown.entries + 1 }
+    requires { (entry.number ≡ count_own entry.worker publisher.shown.entries + 1)
+        × LeavesOpen entry.request entry.answer }
     ensures { IfSome result (λ p. p.shown.entries ≡ publisher.shown.entries ++ entry ∷ []) }
 {
     let _in_limits = entry.worker.number();
@@ -236,9 +237,9 @@ fn show_one<J: Naming, R: Wait>(
         worker,
         number: 1,
         request,
-        reply: Reply::Held {
+        answer: Ok(Reply::Held {
             hold: HoldId::new(1),
-        },
+        }),
     };
     show(rt, alloc, publisher, entry)
 }
@@ -262,9 +263,9 @@ fn show_two<J: Naming, R: Wait>(
         worker,
         number: 1,
         request,
-        reply: Reply::Held {
+        answer: Ok(Reply::Held {
             hold: HoldId::new(2),
-        },
+        }),
     };
     show(rt, alloc, publisher, entry)
 }
@@ -306,8 +307,8 @@ struct Asked {
 
 /// Whether an entry is of this submission, with this hold as its reply.
 fn is_entry(entry: &Entry, asked: &Asked, hold: u32) -> bool {
-    let told = match &entry.reply {
-        Reply::Held { hold: given } => given.number(),
+    let told = match &entry.answer {
+        Ok(Reply::Held { hold: given }) => given.number(),
         _ => 0,
     };
     entry.worker.number() == asked.worker.number()

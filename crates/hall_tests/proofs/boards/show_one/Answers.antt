@@ -18,7 +18,7 @@ if_some None P Q f h = tt
 
 -- The first entry of all has the number 1.
 pub show-requires : goal.show-requires
-show-requires g c = ap (λ (l : List Entry). count_own c.in-Some.worker l + 1) (sym (c.in_ok-publisher.ensures ∙ c.requires))
+show-requires g c = (ap (λ (l : List Entry). count_own c.in-Some.worker l + 1) (sym (c.in_ok-publisher.ensures ∙ c.requires)), tt)
 
 pub returns : goal.returns
 returns g c = if_some c.show.result _ (λ (p : Publishing). count_own 2 p.shown.entries ≡ 0)

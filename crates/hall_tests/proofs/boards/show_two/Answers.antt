@@ -8,4 +8,4 @@ show-requires g c =
     let same : count_own c.in-Some.worker c.in_ok-publisher.publisher.shown.entries ≡ 0 =
     ap (λ w. count_own w c.in_ok-publisher.publisher.shown.entries) c.in-Some.ensures.1
     ∙ (ap (count_own 2) c.in_ok-publisher.ensures ∙ c.requires) in
-    omega (arith, same)
+    (omega (arith, same), tt)

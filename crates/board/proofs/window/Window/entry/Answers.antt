@@ -1,12 +1,13 @@
 use Rattle.std.proofs.Common.{◌≡◌, List, Option, None, Some, Global, sym, ap, ◌∙◌, subst}
-use Rattle.std.specs.Prelude.{MatchOption}
+use Rattle.std.specs.Prelude.{MatchOption, Result}
+use Rattle.terms.specs.declared.fault.Fault.{Fault}
 use Rattle.terms.specs.declared.reply.Reply.{Reply}
 use Rattle.left_right.specs.Sides.{view}
 use Rattle.std.specs.Arc.{arc_value}
 use Rattle.std.specs.declared.sync.Arc.{Arc}
 use Rattle.board.specs.declared.entry.Entry.{Entry}
 use Rattle.board.specs.declared.entry.Seen.{Seen}
-use Rattle.board.specs.Showing.{Showing, ShowsEntry, IsReply, entries_of}
+use Rattle.board.specs.Showing.{Showing, ShowsEntry, IsAnswer, entries_of}
 use Rattle.board.proofs.Keeping.{looks, seen-now, found, not-found}
 use Rattle.board.proofs.window.Window.entry.Goals as goal
 use Rattle.board.proofs.window.Window.entry.Goals.{in-Ok-entry, in-Err-entry}
@@ -29,13 +30,13 @@ returns-after-entry-clause-found g c =
     elim c.match-entry.branch [
       | in-Ok-entry w ↦ rw w.result-is (match_option w.in-Ok-entry.found
           ((e : Entry) → ¬ ShowsEntry c.get.result.now c.args.worker c.args.number c.args.request.now e)
-          ((reply : Reply) → ¬ IsReply now c.args.worker c.args.number c.args.request.now reply)
+          ((answer : Result Reply Fault) → ¬ IsAnswer now c.args.worker c.args.number c.args.request.now answer)
           (λ (a : Arc Entry Global). ShowsEntry c.get.result.now c.args.worker c.args.number c.args.request.now (arc_value a))
-          (λ (a : Arc Entry Global). IsReply now c.args.worker c.args.number c.args.request.now (arc_value a).reply)
-          (λ none reply is. not-found seen c.in-Ok.reading.part.value c.args.worker c.args.number c.args.request.now looked.board looked.sound
+          (λ (a : Arc Entry Global). IsAnswer now c.args.worker c.args.number c.args.request.now (arc_value a).answer)
+          (λ none answer is. not-found seen c.in-Ok.reading.part.value c.args.worker c.args.number c.args.request.now looked.board looked.sound
           (λ e shows. none e (subst (λ (x : Showing). ShowsEntry x c.args.worker c.args.number c.args.request.now e) (sym c.get.ensures) shows))
-          reply (subst (λ (l : List Entry). IsReply l c.args.worker c.args.number c.args.request.now reply) same is))
-          (λ a shows. subst (λ (l : List Entry). IsReply l c.args.worker c.args.number c.args.request.now (arc_value a).reply) (sym same)
+          answer (subst (λ (l : List Entry). IsAnswer l c.args.worker c.args.number c.args.request.now answer) same is))
+          (λ a shows. subst (λ (l : List Entry). IsAnswer l c.args.worker c.args.number c.args.request.now (arc_value a).answer) (sym same)
           (found seen c.in-Ok.reading.part.value c.args.worker c.args.number c.args.request.now (arc_value a) looked.board looked.sound
           (subst (λ (x : Showing). ShowsEntry x c.args.worker c.args.number c.args.request.now (arc_value a)) c.get.ensures shows)))
           w.in-Ok-entry.ensures)

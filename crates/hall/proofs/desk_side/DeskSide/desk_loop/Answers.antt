@@ -12,7 +12,7 @@ use Rattle.hall.specs.Handling.{submission_of, shown_by, Finishes}
 use Rattle.hall.specs.Closings.{HasTold}
 use Rattle.hall.proofs.HandledLists.{stays_gone, goes_now, from-more}
 use Rattle.hall.proofs.Progress.{none-handled}
-use Rattle.hall.proofs.Replies.{given-to}
+use Rattle.hall.proofs.Replies.{given-to, no-fault-shown}
 use Rattle.hall.proofs.Closings.{message-told}
 use Rattle.hall.proofs.Shown.{may-take, message-kept, finishes}
 use Rattle.hall.proofs.desk_side.DeskSide.desk_loop.Goals as goal
@@ -92,5 +92,6 @@ pub returns-clause-told : goal.returns-clause-told
 returns-clause-told g c = λ disk H first. subst (IsTold H) (sym c.stop.ensures.same) (c.work.invariant.stands.told disk H first)
 
 pub returns-clause-replies : goal.returns-clause-replies
-returns-clause-replies g c = λ disk H first asked old new reply on is. given-to H c.stop.result.shown
-    (subst (IsTold H) (sym c.stop.ensures.same) (c.work.invariant.stands.told disk H first)) old new on reply asked is
+returns-clause-replies g c = λ disk H first old new on.
+    let told : IsTold H c.stop.result.shown = subst (IsTold H) (sym c.stop.ensures.same) (c.work.invariant.stands.told disk H first) in
+    record { reply = given-to H c.stop.result.shown told old new on; never = no-fault-shown H c.stop.result.shown told old new on }
