@@ -9,6 +9,7 @@ answers that were worked out by hand, and one damage at least for each case of e
 with `laws_of` alone.
 """
 
+import itertools
 import os
 import random
 import shutil
@@ -21,7 +22,7 @@ from contextlib import closing
 
 import room  # finds lib and reference
 from lib.checking import check, part, run_script
-from lib.runs import CIRC, GROUND, ROOM, circ, digest, memory_of, rows, say, whole, write
+from lib.runs import CIRC, GROUND, circ, digest, memory_of, rows, say, whole, write
 
 # After the small library: a loan that ended with a fine, which was paid and waived in part, a copy on loan, one that
 # is lost, one that travels for a hold, one that stands ready for another, a hold that waits, and one from a day on.
@@ -43,6 +44,14 @@ BUSY = [
     ("b5", ["place-hold-from", "1", "400", "1", "2026-04-01"], "hold 4"),
 ]
 
+# After the small library: a charge, a payment at a counter, and barcodes.
+CHARGED = [
+    ("a1", ["charge", "2", "250", "1", "Photocopies, 10 pages"], "owed 250"),
+    ("a2", ["pay-at", "2", "50", "2"], "owed 200"),
+    ("a3", ["copy-barcode", "10", "30000100000010"], "ok"),
+    ("a4", ["patron-barcode", "1", "01"], "ok"),
+]
+
 # Rows in the tables of older schemas, which stand empty in the newest.
 OLD_RULE = "INSERT INTO rules VALUES ({}, {}, 6, 1, 20, 100)"
 OLD_LOAN = "INSERT INTO loans VALUES ({}, 10, 1, 1, 20514, 20521, 6, 1, 20, 100, 20520)"
@@ -59,6 +68,8 @@ ON_THE_GROUND = [
     ([OLD_HOLD.format(3)], "unsound numbers holds 3"),
 ]
 
+CLOSED = "INSERT INTO closed_days VALUES ({}, {})"
+BARCODE = "INSERT INTO barcodes VALUES ({}, {}, '{}')"
 LOAN = "INSERT INTO loans3 VALUES ({}, {}, 1, 1, 20529, 20535, 6, 1, 20, 100, NULL, 0)"
 
 # What is written into the busy library, and the line of its audit.
@@ -83,7 +94,7 @@ DAMAGE = [
     ([LOAN.format(3, 9999999), LOAN.format(4, 9999999)], "unsound claims 9999999"),
     ([LOAN.format(3, 65536), LOAN.format(4, 131071), LOAN.format(5, 131071)], "unsound claims 131071"),
     ([LOAN.format(3, 65536), LOAN.format(4, 65536), LOAN.format(5, 65535), LOAN.format(6, 65535)], "unsound claims 65535"),
-    ([LOAN.format(3, 65535), LOAN.format(4, 65536), LOAN.format(5, 131072)], "sound"),
+    ([LOAN.format(3, 65535), LOAN.format(4, 65536), LOAN.format(5, 131072)], "unsound reference loans3 3"),
     # a ready hold lacks its copy or its limit
     (["UPDATE holds2 SET limit_day = NULL WHERE hold = 2"], "unsound binding 2"),
     (["UPDATE holds2 SET copy = NULL WHERE hold = 2"], "unsound binding 2"),
@@ -121,7 +132,7 @@ DAMAGE = [
     (["UPDATE holds2 SET limit_day = NULL WHERE hold = 2", "UPDATE transits SET goal = 2 WHERE copy = 20"], "unsound binding 1"),
     (["UPDATE holds2 SET limit_day = NULL WHERE hold = 2", "UPDATE holds2 SET copy = 40 WHERE hold = 3"], "unsound binding 2"),
     (["INSERT INTO transits VALUES (40, 1, 2147483647)"], "unsound binding 2147483647"),
-    # what is owed isn't the fines and prices less the payments and waivers
+    # what is owed isn't the fines, prices and charges less the payments and waivers
     (["UPDATE patrons SET owed = 51 WHERE patron = 1"], "unsound balance 1"),
     (["UPDATE patrons SET owed = 70 WHERE patron = 1"], "unsound balance 1"),
     (["UPDATE patrons SET owed = 1 WHERE patron = 3"], "unsound balance 3"),
@@ -135,13 +146,69 @@ DAMAGE = [
     (["DELETE FROM lines WHERE sort = 3"], "unsound balance 1"),
     (["UPDATE lines SET patron = 3 WHERE sort = 2", "UPDATE patrons SET owed = 80 WHERE patron = 1"], "unsound balance 3"),
     (["UPDATE lines SET patron = 2", "UPDATE patrons SET owed = 0 WHERE patron = 1", "UPDATE patrons SET owed = 50 WHERE patron = 2"], "sound"),
-    (["INSERT INTO lines VALUES (4, 9, 20529, 0, 5, 1)"], "sound"),
+    (["INSERT INTO lines VALUES (4, 9, 20529, 0, 5, 1)"], "unsound reference lines 4"),
     (["INSERT INTO patrons VALUES (9999999, 1, 'cardkey09999', 'Zed', 7)"], "unsound balance 9999999"),
     (["INSERT INTO patrons VALUES (65536, 1, 'cardkey65536', 'Yan', 5)", "INSERT INTO lines VALUES (4, 65536, 20529, 0, 5, 1)",
       "INSERT INTO patrons VALUES (131072, 1, 'cardkey13107', 'Wim', 1)"], "unsound balance 131072"),
     # claims come before bindings, and these before balances
     (["UPDATE copies SET condition = 1 WHERE copy = 30", "UPDATE holds2 SET limit_day = NULL WHERE hold = 2", "UPDATE patrons SET owed = 0"], "unsound claims 30"),
     (["UPDATE holds2 SET copy = 40 WHERE hold = 3", "UPDATE patrons SET owed = 0"], "unsound binding 3"),
+    # each column names a row that isn't there: of a table that is read first, and the least of its rows
+    ([CLOSED.format(9, 20600)], "unsound reference closed_days 20600"),
+    ([CLOSED.format(8, 20700), CLOSED.format(9, 20600)], "unsound reference closed_days 20600"),
+    (["UPDATE rules3 SET kind = 9 WHERE copy_kind = 2"], "unsound reference rules3 2"),
+    (["DELETE FROM kinds"], "unsound reference rules3 1"),
+    (["UPDATE patrons SET kind = 9 WHERE patron = 3"], "unsound reference patrons 3"),
+    (["UPDATE patrons SET kind = 9"], "unsound reference patrons 1"),
+    (["UPDATE copies SET title = 999 WHERE copy = 40"], "unsound reference copies 40"),
+    (["DELETE FROM titles WHERE title = 400"], "unsound reference copies 40"),
+    (["UPDATE copies SET home = 9 WHERE copy = 40"], "unsound reference copies 40"),
+    (["DELETE FROM branches"], "unsound reference copies 10"),
+    (["UPDATE loans3 SET copy = 99 WHERE loan = 1"], "unsound reference loans3 1"),
+    (["UPDATE loans3 SET patron = 9 WHERE loan = 2"], "unsound reference loans3 2"),
+    (["UPDATE loans3 SET branch = 9 WHERE loan = 2"], "unsound reference loans3 2"),
+    (["UPDATE loans3 SET patron = 9, branch = 9"], "unsound reference loans3 1"),
+    (["UPDATE holds2 SET patron = 9 WHERE hold = 4"], "unsound reference holds2 4"),
+    (["UPDATE holds2 SET title = 999 WHERE hold = 4"], "unsound reference holds2 4"),
+    (["UPDATE holds2 SET branch = 9 WHERE hold = 4"], "unsound reference holds2 4"),
+    (["INSERT INTO transits VALUES (40, 9, NULL)"], "unsound reference transits 40"),
+    (["INSERT INTO transits VALUES (99, 1, NULL)"], "unsound reference transits 99"),
+    (["UPDATE lines SET loan = 9 WHERE sort = 0"], "unsound reference lines 1"),
+    (["UPDATE lines SET patron = 9", "UPDATE patrons SET owed = 0"], "unsound reference lines 1"),
+    ([BARCODE.format(1, 99, "A1")], "unsound reference barcodes 99"),
+    ([BARCODE.format(0, 10, "A1")], "unsound reference barcodes 10"),
+    ([BARCODE.format(1, 10, "A1"), BARCODE.format(0, 3, "A2")], "sound"),
+    (["INSERT INTO notes VALUES (9, 1, NULL)"], "unsound reference notes 9"),
+    (["INSERT INTO notes VALUES (2, 9, NULL)"], "unsound reference notes 2"),
+    (["UPDATE patrons SET kind = 9", CLOSED.format(9, 20600)], "unsound reference closed_days 20600"),
+    (["INSERT INTO notes VALUES (2, 9, NULL)", "UPDATE lines SET loan = 9"], "unsound reference lines 1"),
+    (["DELETE FROM patrons WHERE patron = 3"], "unsound reference holds2 2"),
+    (["DELETE FROM loans3 WHERE loan = 1"], "unsound reference lines 1"),
+    # a number below the next one has no row, or one from it on has one: the least of the first such table
+    (["DELETE FROM loans3 WHERE loan = 2"], "unsound numbers loans3 2"),
+    (["DELETE FROM holds2 WHERE hold = 3"], "unsound numbers holds2 3"),
+    (["UPDATE meta SET next_loan = 2"], "unsound numbers loans3 2"),
+    (["UPDATE meta SET next_loan = 1"], "unsound numbers loans3 1"),
+    (["UPDATE meta SET next_loan = 4"], "unsound numbers loans3 3"),
+    (["UPDATE meta SET next_hold = 1"], "unsound numbers holds2 1"),
+    (["UPDATE meta SET next_hold = 4"], "unsound numbers holds2 4"),
+    (["UPDATE meta SET next_line = 9"], "unsound numbers lines 4"),
+    (["UPDATE meta SET next_line = 3"], "unsound numbers lines 3"),
+    (["UPDATE meta SET next_loan = 9, next_hold = 1, next_line = 1"], "unsound numbers loans3 3"),
+    (["UPDATE meta SET next_hold = 9, next_line = 1"], "unsound numbers holds2 5"),
+    (["UPDATE loans3 SET loan = 7 WHERE loan = 2"], "unsound numbers loans3 2"),
+    (["UPDATE loans3 SET loan = 7 WHERE loan = 2", "UPDATE meta SET next_loan = 2"], "unsound numbers loans3 7"),
+    (["UPDATE meta SET next_loan = 9", "UPDATE patrons SET kind = 9"], "unsound reference patrons 1"),
+    # a patron or a copy has the barcode of another one; capitals count
+    ([BARCODE.format(0, 2, "A1"), BARCODE.format(0, 3, "A1")], "unsound reference barcodes 3"),
+    ([BARCODE.format(0, 3, "A1"), BARCODE.format(1, 10, "A1")], "unsound reference barcodes 10"),
+    ([BARCODE.format(0, 3, "A1"), BARCODE.format(1, 10, "a1")], "sound"),
+    ([BARCODE.format(1, 10, "1"), BARCODE.format(1, 11, "01"), BARCODE.format(1, 20, "1")],
+     "unsound reference barcodes 20"),
+    ([BARCODE.format(0, 2, "A1"), BARCODE.format(0, 3, "A1"), "UPDATE meta SET next_loan = 2"],
+     "unsound numbers loans3 2"),
+    # nobody can tell that a reply is no more kept
+    (["DELETE FROM kept"], "sound"),
     # a row in a table of older schemas: the least of the first such table, by the last number of its key, once all
     # laws hold
     ([OLD_RULE.format(2, 1), OLD_RULE.format(1, 9), OLD_RULE.format(1, 99)], "unsound numbers rules 9"),
@@ -151,6 +218,7 @@ DAMAGE = [
     ([OLD_HOLD.format(1), OLD_LOAN.format(2), OLD_RULE.format(1, 3)], "unsound numbers rules 3"),
     ([OLD_HOLD.format(1), OLD_LOAN.format(2)], "unsound numbers loans 2"),
     ([OLD_RULE.format(1, 1), "UPDATE patrons SET owed = 51 WHERE patron = 1"], "unsound balance 1"),
+    ([OLD_RULE.format(1, 1), "UPDATE meta SET next_loan = 2"], "unsound numbers loans3 2"),
     ([OLD_HOLD.format(9), "DELETE FROM holds"], "sound"),
 ]
 
@@ -195,34 +263,144 @@ FAULTS = [
     (["DROP TABLE transits"], "fault 91"),
 ]
 
+# What is written into the library with a charge, a payment at a counter and barcodes.
+ON_THE_CHARGED = [
+    ([], "sound"),
+    (["UPDATE lines SET amount = 251 WHERE sort = 4"], "unsound balance 2"),
+    (["UPDATE lines SET sort = 3 WHERE sort = 4"], "unsound balance 2"),
+    (["UPDATE lines SET sort = 4"], "unsound balance 2"),
+    (["UPDATE lines SET patron = 3 WHERE sort = 4"], "unsound balance 2"),
+    (["UPDATE lines SET patron = 3", "UPDATE patrons SET owed = 0 WHERE patron = 2"], "unsound balance 3"),
+    (["UPDATE lines SET patron = 3", "UPDATE patrons SET owed = 200 * (patron - 2) WHERE patron > 1"], "sound"),
+    (["DELETE FROM lines WHERE sort = 4"], "unsound balance 2"),
+    (["UPDATE patrons SET owed = 0 WHERE patron = 2"], "unsound balance 2"),
+    (["UPDATE patrons SET owed = 250 WHERE patron = 2"], "unsound balance 2"),
+    (["UPDATE patrons SET owed = 300 WHERE patron = 2"], "unsound balance 2"),
+    (["UPDATE lines SET sort = 5 WHERE sort = 4"], "fault 93"),
+    (["UPDATE lines SET sort = 5 WHERE sort = 2"], "fault 93"),
+    (["UPDATE notes SET branch = 0 WHERE line = 1"], "fault 93"),
+    (["UPDATE notes SET branch = 100 WHERE line = 2"], "fault 93"),
+    (["UPDATE notes SET text = '' WHERE line = 1"], "fault 93"),
+    (["UPDATE notes SET text = ' Copies' WHERE line = 1"], "fault 93"),
+    (["UPDATE notes SET text = CAST(x'ff' AS TEXT) WHERE line = 1"], "fault 93"),
+    (["INSERT INTO notes VALUES (0, 1, NULL)"], "fault 93"),
+    (["INSERT INTO notes VALUES (2147483648, 1, NULL)"], "fault 93"),
+    (["UPDATE barcodes SET barcode = '' WHERE sort = 0"], "fault 93"),
+    (["UPDATE barcodes SET barcode = 'a-1' WHERE sort = 1"], "fault 93"),
+    (["UPDATE barcodes SET barcode = '1234567890123456789012345' WHERE sort = 1"], "fault 93"),
+    (["UPDATE barcodes SET barcode = CAST(x'ff' AS TEXT) WHERE sort = 0"], "fault 93"),
+    (["UPDATE barcodes SET sort = 2 WHERE sort = 1"], "fault 93"),
+    (["UPDATE barcodes SET sort = -1 WHERE sort = 0"], "fault 93"),
+    (["UPDATE barcodes SET number = 0 WHERE sort = 0"], "fault 93"),
+    (["UPDATE barcodes SET number = 10000000 WHERE sort = 1"], "fault 93"),
+    (["DROP TABLE barcodes"], "fault 91"),
+    (["DROP TABLE notes"], "fault 91"),
+]
+
 # A library with more rows of each table that grows than are read at once, which the texts of `FAR` damage past the
 # first of them.
 MANY, FIRST = 2_345, 10_000
 LAST = FIRST + MANY - 1
+# the last loan, hold and line: those of the busy library come before
+LAST_LOAN, LAST_HOLD, LAST_LINE = 2 + MANY, 4 + MANY, 3 + 2 * MANY
 FAR = [
     ([], "sound"),
     ([f"UPDATE copies SET condition = 2 WHERE copy = {LAST}"], f"unsound claims {LAST}"),
-    ([LOAN.format(LAST + 1, LAST)], f"unsound claims {LAST}"),
-    ([f"UPDATE loans3 SET ended = NULL WHERE loan = {LAST}"], f"unsound claims {LAST}"),
-    ([f"UPDATE holds2 SET copy = {LAST} WHERE hold = {LAST}"], f"unsound binding {LAST}"),
-    ([f"UPDATE transits SET hold = {LAST} WHERE copy = {LAST}"], f"unsound binding {LAST}"),
+    ([LOAN.format(LAST_LOAN + 1, LAST)], f"unsound claims {LAST}"),
+    ([f"UPDATE loans3 SET ended = NULL WHERE loan = {LAST_LOAN}"], f"unsound claims {LAST}"),
+    ([f"UPDATE holds2 SET copy = {LAST} WHERE hold = {LAST_HOLD}"], f"unsound binding {LAST_HOLD}"),
+    ([f"UPDATE transits SET hold = {LAST_HOLD} WHERE copy = {LAST}"], f"unsound binding {LAST_HOLD}"),
     ([f"UPDATE patrons SET owed = 1 WHERE patron = {LAST}"], f"unsound balance {LAST}"),
-    (["DELETE FROM lines WHERE line = (SELECT max(line) FROM lines)"], f"unsound balance {LAST}"),
+    ([f"DELETE FROM lines WHERE line = {LAST_LINE}"], f"unsound balance {LAST}"),
+    ([f"UPDATE patrons SET kind = 9 WHERE patron = {LAST}"], f"unsound reference patrons {LAST}"),
+    ([f"UPDATE copies SET title = {LAST + 1} WHERE copy = {LAST}"], f"unsound reference copies {LAST}"),
+    ([f"DELETE FROM titles WHERE title = {LAST}"], f"unsound reference copies {LAST}"),
+    ([f"UPDATE loans3 SET patron = {LAST + 1} WHERE loan = {LAST_LOAN}"], f"unsound reference loans3 {LAST_LOAN}"),
+    ([f"UPDATE holds2 SET branch = 9 WHERE hold = {LAST_HOLD}"], f"unsound reference holds2 {LAST_HOLD}"),
+    ([f"UPDATE transits SET goal = 9 WHERE copy = {LAST}"], f"unsound reference transits {LAST}"),
+    ([f"UPDATE lines SET loan = {LAST_LOAN + 1} WHERE line = {LAST_LINE - 1}"],
+     f"unsound reference lines {LAST_LINE - 1}"),
+    ([f"UPDATE barcodes SET number = {LAST + 1} WHERE sort = 1 AND number = {LAST}"],
+     f"unsound reference barcodes {LAST + 1}"),
+    ([f"UPDATE notes SET branch = 9 WHERE line = {LAST_LINE}"], f"unsound reference notes {LAST_LINE}"),
+    ([f"UPDATE barcodes SET barcode = 'c{FIRST}' WHERE sort = 1 AND number = {LAST}"],
+     f"unsound reference barcodes {LAST}"),
+    ([f"UPDATE meta SET next_loan = {LAST_LOAN}"], f"unsound numbers loans3 {LAST_LOAN}"),
+    ([f"DELETE FROM holds2 WHERE hold = {LAST_HOLD}"], f"unsound numbers holds2 {LAST_HOLD}"),
+    ([f"UPDATE meta SET next_line = {LAST_LINE + 2}"], f"unsound numbers lines {LAST_LINE + 1}"),
     ([f"UPDATE patrons SET owed = -1 WHERE patron = {LAST}"], "fault 93"),
     ([f"UPDATE titles SET text = CAST(x'ff' AS TEXT) WHERE title = {LAST}"], "fault 93"),
     ([f"UPDATE copies SET condition = 3 WHERE copy = {LAST}"], "fault 93"),
-    ([f"UPDATE loans3 SET due = 84006 WHERE loan = {LAST}"], "fault 93"),
-    ([f"UPDATE loans3 SET grace = 366 WHERE loan = {LAST}"], "fault 93"),
-    ([f"UPDATE holds2 SET state = 5 WHERE hold = {LAST}"], "fault 93"),
+    ([f"UPDATE loans3 SET due = 84006 WHERE loan = {LAST_LOAN}"], "fault 93"),
+    ([f"UPDATE loans3 SET grace = 366 WHERE loan = {LAST_LOAN}"], "fault 93"),
+    ([f"UPDATE holds2 SET state = 5 WHERE hold = {LAST_HOLD}"], "fault 93"),
     ([f"UPDATE transits SET goal = 0 WHERE copy = {LAST}"], "fault 93"),
-    (["UPDATE lines SET sort = 4 WHERE line = (SELECT max(line) FROM lines)"], "fault 93"),
+    (["UPDATE lines SET sort = 4 WHERE line = (SELECT max(line) FROM lines)"], f"unsound balance {LAST}"),
+    (["UPDATE lines SET sort = 5 WHERE line = (SELECT max(line) FROM lines)"], "fault 93"),
+    (["UPDATE notes SET branch = 0 WHERE line = (SELECT max(line) FROM notes)"], "fault 93"),
+    ([f"UPDATE barcodes SET barcode = '' WHERE sort = 1 AND number = {LAST}"], "fault 93"),
     ([f"UPDATE kept SET reply = CAST(x'ff' AS TEXT) WHERE caller = 0 AND key = 'k{LAST}'"], "fault 93"),
     ([f"UPDATE kept SET text = CAST(x'ff' AS TEXT) WHERE caller = 1 AND key = 'p{LAST}'"], "fault 93"),
     ([f"UPDATE kept SET text = CAST(x'ff' AS TEXT) WHERE caller = {LAST}"], "fault 93"),
 ]
 
 WAITING, READY = 0, 1
-FINE, PRICE = 0, 1
+FINE, PRICE, CHARGE = 0, 1, 4
+
+# Of each table, in the order of an audit: the last column of its key, and which table's key each column names.
+NAMED = (
+    ("closed_days", "day", {"branch": "branches"}),
+    ("rules3", "copy_kind", {"kind": "kinds"}),
+    ("patrons", "patron", {"kind": "kinds"}),
+    ("copies", "copy", {"title": "titles", "home": "branches"}),
+    ("loans3", "loan", {"copy": "copies", "patron": "patrons", "branch": "branches"}),
+    ("holds2", "hold", {"patron": "patrons", "title": "titles", "branch": "branches", "copy": "copies"}),
+    ("transits", "copy", {"copy": "copies", "goal": "branches", "hold": "holds2"}),
+    ("lines", "line", {"patron": "patrons", "loan": "loans3"}),
+    ("barcodes", "number", {}),
+    ("notes", "line", {"line": "lines", "branch": "branches"}),
+)
+THINGS = ("patrons", "copies")
+NUMBERED = (("loans3", "loan", "next_loan"), ("holds2", "hold", "next_hold"), ("lines", "line", "next_line"))
+
+
+def unreferred(read):
+    """The line of the first table with a row that names a missing one, and of the least such row; else None."""
+    others = {other for _, _, named in NAMED for other in named.values()}
+    there = {other: {key for key, in read(f"SELECT rowid FROM {other}")} for other in others}
+    for table, last, named in NAMED:
+        wrong = set()
+        for column, other in named.items():
+            cells = read(f"SELECT {last}, {column} FROM {table}")
+            wrong |= {key for key, it in cells if it is not None and it not in there[other]}
+        if table == "barcodes":
+            cells = read("SELECT sort, number FROM barcodes")
+            wrong = {number for sort, number in cells if number not in there[THINGS[sort]]}
+        if wrong:
+            return f"unsound reference {table} {min(wrong)}"
+    return None
+
+
+def misnumbered(read):
+    """The line of the first table with a wrong number; None where there is none."""
+    for table, key, column in NUMBERED:
+        ((following,),) = read(f"SELECT {column} FROM meta")
+        given = {number for number, in read(f"SELECT {key} FROM {table}")}
+        gap = next(number for number in itertools.count(1) if number not in given)
+        wrong = [gap] if gap < following else [number for number in given if number >= following]
+        if wrong:
+            return f"unsound numbers {table} {min(wrong)}"
+    return None
+
+
+def doubled(read):
+    """The line of the first patron or copy, patrons first, with the barcode of one before; else None."""
+    seen = set()
+    for number, barcode in read("SELECT number, barcode FROM barcodes ORDER BY sort, number"):
+        if barcode in seen:
+            return f"unsound reference barcodes {number}"
+        seen.add(barcode)
+    return None
 
 
 def laws_of(path):
@@ -236,6 +414,7 @@ def laws_of(path):
         holds = {hold: row for hold, *row in read("SELECT hold, title, branch, state, copy, limit_day FROM holds2")}
         owed, lines = dict(read("SELECT patron, owed FROM patrons")), read("SELECT patron, sort, amount FROM lines")
         old = {"rules": read("SELECT kind, copy_kind FROM rules"), "loans": read("SELECT loan FROM loans"), "holds": read("SELECT hold FROM holds")}
+        later = unreferred(read) or misnumbered(read) or doubled(read)
 
     claims = [copy for copy, ended in loans if ended is None] + [copy for copy, *_ in transits]
     claims += [copy for _, _, state, copy, _ in holds.values() if state == READY and copy is not None]
@@ -261,11 +440,14 @@ def laws_of(path):
         return f"unsound binding {min(unbound)}"
 
     def due(patron):
-        return sum(amount if sort in (FINE, PRICE) else -amount for who, sort, amount in lines if who == patron)
+        return sum(amount if sort in (FINE, PRICE, CHARGE) else -amount for who, sort,
+                   amount in lines if who == patron)
 
     unbalanced = [patron for patron, amount in owed.items() if amount != due(patron)]
     if unbalanced:
         return f"unsound balance {min(unbalanced)}"
+    if later:
+        return later
     return next((f"unsound numbers {table} {min(keys)[-1]}" for table, keys in old.items() if keys), "sound")
 
 
@@ -300,31 +482,38 @@ def found(library, folder, at, texts, line):
 
 def fill(path):
     """More rows of each table that grows than are read at once, with which the library is sound: each loan ended with
-    a fine that was paid, each hold is cancelled, each copy travels, and much is kept for the desk, for one patron, and
-    for each patron."""
+    a fine that was paid, each hold is cancelled, each copy travels, each copy and patron has a barcode, and much is
+    kept for the desk, for one patron, and for each patron."""
     numbers = range(FIRST, LAST + 1)
-    lines = [(FIRST + 2 * at + more, n, 20529, sort, 240, n if sort == FINE else None) for at, n in enumerate(numbers) for more, sort in ((0, FINE), (1, 2))]
+    fines = [(4 + 2 * at, n, 20529, FINE, 240, 3 + at) for at, n in enumerate(numbers)]
+    lines = fines + [(line + 1, n, day, 2, amount, None) for line, n, day, _, amount, _ in fines]
     kept = [(owner, f"{letter}{n}", "page 1", "ok") for owner, letter in ((0, "k"), (1, "p")) for n in numbers] + [(n, "own", "page 1", "ok") for n in numbers]
     tables = {
         "patrons": [(n, 1, f"cardkey{n}", "Reader", 0) for n in numbers],
         "titles": [(n, "A title") for n in numbers],
         "copies": [(n, n, 1, 1, 900, 0) for n in numbers],
-        "loans3": [(n, n, n, 1, 20500, 20520, 20, 1, 20, 1000, 20529, 2) for n in numbers],
-        "holds2": [(n, n, n, 1, 3, None, None, None) for n in numbers],
+        "loans3": [(3 + at, n, n, 1, 20500, 20520, 20, 1, 20, 1000, 20529, 2) for at, n in enumerate(numbers)],
+        "holds2": [(5 + at, n, n, 1, 3, None, None, None) for at, n in enumerate(numbers)],
         "transits": [(n, 1, None) for n in numbers],
         "lines": lines,
+        "notes": [(line, 1, None) for line, _, _, sort, _, _ in lines if sort != FINE],
+        "barcodes": [(sort, n, f"{letter}{n}") for sort, letter in ((0, "p"), (1, "c")) for n in numbers],
         "kept": kept,
     }
     with closing(sqlite3.connect(path)) as conn, conn:
         for table, many in tables.items():
             conn.executemany(f"INSERT INTO {table} VALUES ({', '.join('?' * len(many[0]))})", many)
+        following = (LAST_LOAN + 1, LAST_HOLD + 1, LAST_LINE + 1)
+        conn.execute("UPDATE meta SET next_loan = ?, next_hold = ?, next_line = ?", following)
 
 
 PAST = 100_000
+# bytes
+LOAN_AND_TITLE = 320
 
 
 def the_past(ground, folder):
-    """An audit takes about the memory of opening the file, however many loans have ended and however much is kept of
+    """Beyond the memory of opening the file, an audit keeps loans and titles, and nothing of what is kept of
     requests."""
     path, out = os.path.join(folder, "past.db"), os.path.join(folder, "past.txt")
     shutil.copy(ground, path)
@@ -339,7 +528,8 @@ def the_past(ground, folder):
     most, status = memory_of(["audit", path], out)
     with open(out, encoding="utf-8") as file:
         check("an audit of what is past", (file.read(), status), ("sound\n", 0))
-    check(f"{most - least} KiB for the rows, of {ROOM}", most - least < ROOM, True)
+    bound = LOAN_AND_TITLE * PAST // 1024
+    check(f"{most - least} KiB for the rows, of {bound}", most - least < bound, True)
 
 
 def no_library(folder):
@@ -366,13 +556,14 @@ def lost_output(library):
 
 # Columns with the values that the random damage gives them, most of them within the limits.
 COLUMNS = {
-    "loans3": {"copy": (10, 11, 20, 30, 40, 99), "ended": (None, None, 20529), "patron": (1, 2, 3), "grace": (0, 2, 365)},
+    "loans3": {"copy": (10, 11, 20, 30, 40, 99), "ended": (None, None, 20529), "patron": (1, 2, 3, 9), "grace": (0, 2)},
     "holds2": {"state": (0, 1, 2, 3, 4), "copy": (None, 10, 20, 30, 40, 99), "limit_day": (None, 20535), "title": (100, 200, 300, 400), "branch": (1, 2),
                "first_day": (None, 20544)},
     "transits": {"goal": (1, 2), "hold": (None, 1, 2, 3, 4, 9), "copy": (10, 11, 20, 30, 40, 99)},
     "copies": {"condition": (0, 0, 1, 2), "title": (100, 200, 300, 400)},
-    "lines": {"patron": (1, 2, 3, 9), "sort": (0, 1, 2, 3), "amount": (1, 20, 30, 50, 100)},
-    "patrons": {"owed": (0, 20, 50, 70, 100)},
+    "lines": {"patron": (1, 2, 3, 9), "sort": (0, 1, 2, 3, 4), "amount": (1, 20, 30, 50, 100), "loan": (None, 1, 2, 9)},
+    "patrons": {"owed": (0, 20, 50, 70, 100), "kind": (1, 1, 9)},
+    "meta": {"next_loan": (2, 3, 4), "next_hold": (1, 5, 9), "next_line": (3, 4, 5)},
 }
 
 
@@ -404,21 +595,26 @@ def random_damage(library, folder, seed, many):
         for line in pool.map(one, jobs):
             met[line] = met.get(line, 0) + 1
     print("audit: random damage: " + ", ".join(f"{count} {line}" for line, count in sorted(met.items())) + f", by the seed {seed}")
-    check("each law is broken, and none", sorted(met), ["sound", "unsound balance", "unsound binding", "unsound claims"])
+    laws = ("balance", "binding", "claims", "numbers", "reference")
+    check("each law is broken, and none", sorted(met), ["sound", *(f"unsound {it}" for it in laws)])
 
 
 def main(arguments):
     seed = int(arguments[0]) if arguments else 2826
     with tempfile.TemporaryDirectory() as folder:
-        ground, busy, large = (os.path.join(folder, name) for name in ("ground.db", "busy.db", "large.db"))
+        ground, busy, charged, large = (os.path.join(folder, name) for name in ("ground.db", "busy.db",
+            "charged.db", "large.db"))
         say(ground, GROUND)
         shutil.copy(ground, busy)
         say(busy, BUSY)
+        shutil.copy(ground, charged)
+        say(charged, CHARGED)
         shutil.copy(busy, large)
         fill(large)
         kept = whole(busy)
         jobs = [(ground, at, *it) for at, it in enumerate(ON_THE_GROUND)]
         jobs += [(busy, len(jobs) + at, *it) for at, it in enumerate(DAMAGE + FAULTS)]
+        jobs += [(charged, len(jobs) + at, *it) for at, it in enumerate(ON_THE_CHARGED)]
         jobs += [(large, len(jobs) + at, *it) for at, it in enumerate(FAR)]
         by_laws = [job for job in jobs if not job[-1].startswith("fault")]
         check("findings and faults are tried", (len(by_laws) > 30, len(jobs) - len(by_laws) > 30), (True, True))

@@ -305,7 +305,7 @@ pay 1 30 -> owed 2570
 waive 1 20 -> owed 2550
 account 1 0 -> patron 1 owed 2550 name Ann Bell / line 1 2026-03-17 fine 100 loan 1 title 100 Rivers of the North / line 2 2026-03-17 price 2500 loan 1 title 100 Rivers of the North / line 3 2026-03-17 payment 30 / line 4 2026-03-17 waiver 20 / end
 debts 0 -> patron 1 owed 2550 name Ann Bell / end
-till 2026-03-17 -> till 2026-03-17 / fines                100 / prices              2500 / payments              30 / waivers               20
+till 2026-03-17 -> till 2026-03-17 / SUMS 100 2500 30 20
 
 # card keys, and patrons with another kind
 card-key 9 newkey000001 -> refused 11
@@ -595,6 +595,141 @@ patron 2000 1 cardkey00010 'Di Ek' -> ok
 find-patrons 0 'sand zoe' -> FOUND / after 1100
 find-patrons 1100 'sand zoe' -> end
 
+# barcodes: one for a copy or a patron, and none for two of them; capitals and leading zeros count
+copy-barcode 99 c1 -> refused 13
+patron-barcode 9 c1 -> refused 11
+drop-barcode c1 -> refused 18
+find-barcode c1 -> refused 18
+copy-barcode 10 c1 -> ok
+find-barcode c1 -> copy 10
+copy 10 -> copy 10 home 1 kind 1 price 2500 title 100 Rivers of the North / shelf 1 / barcode c1
+copy 11 -> copy 11 home 1 kind 1 price 2500 title 100 Rivers of the North / shelf 1
+copy-barcode 99 c1 -> refused 13
+patron-barcode 9 c1 -> refused 11
+copy-barcode 11 c1 -> refused 26
+patron 10 1 cardkey00010 'Di East' -> ok
+patron-barcode 10 c1 -> refused 26
+copy-barcode 10 c1 -> ok
+find-barcode C1 -> refused 18
+drop-barcode C1 -> refused 18
+copy-barcode 11 C1 -> ok
+patron-barcode 10 01 -> ok
+find-barcode 1 -> refused 18
+drop-barcode 1 -> refused 18
+find-barcode 01 -> patron 10
+borrower 10 -> patron 10 owed 0 name Di East / kind 1 / barcode 01
+patron-barcode 10 01 -> ok
+patron-barcode 1 01 -> refused 26
+copy-barcode 10 01 -> refused 26
+copy-barcode 20 01 -> refused 26
+
+# another barcode takes the place of the old one, which may be given again; so may one that was dropped
+copy-barcode 10 c1 -> ok
+patron-barcode 1 p1 -> ok
+patron-barcode 1 000000000000000000000001 -> ok
+find-barcode p1 -> refused 18
+find-barcode 000000000000000000000001 -> patron 1
+copy-barcode 20 p1 -> ok
+copy-barcode 10 c2 -> ok
+find-barcode c1 -> refused 18
+drop-barcode c1 -> refused 18
+patron-barcode 2 c1 -> ok
+find-barcode c1 -> patron 2
+borrower 1 -> patron 1 owed 0 name Ann Bell / kind 1 / barcode 000000000000000000000001
+drop-barcode 000000000000000000000001 -> ok
+drop-barcode 000000000000000000000001 -> refused 18
+find-barcode 000000000000000000000001 -> refused 18
+borrower 1 -> patron 1 owed 0 name Ann Bell / kind 1
+borrower 2 -> patron 2 owed 0 name Bo Carr / kind 1 / barcode c1
+copy-barcode 11 000000000000000000000001 -> ok
+find-barcode p1 -> copy 20
+drop-barcode p1 -> ok
+copy 20 -> copy 20 home 2 kind 1 price 1200 title 200 Salt Roads / shelf 2
+drop-barcode c2 -> ok
+copy-barcode 10 c2 -> ok
+find-barcode c2 -> copy 10
+
+# a barcode stays, wherever its copy is and whatever is corrected
+copy-barcode 10 c10 -> ok
+copy-barcode 30 C30 -> ok
+patron-barcode 1 p1 -> ok
+check-out 1 10 1 -> loan 1 due 2026-03-09
+copy 10 -> copy 10 home 1 kind 1 price 2500 title 100 Rivers of the North / loan 1 due 2026-03-09 patron 1 Ann Bell / barcode c10
+amend-copy 10 1 900 -> ok
+amend-patron 1 1 'Ann Carr' -> ok
+card-key 1 newkey000001 -> ok
+borrower 1 -> patron 1 owed 0 name Ann Carr / kind 1 / barcode p1
+missing 10 -> fine 0 price 900
+copy 10 -> copy 10 home 1 kind 1 price 900 title 100 Rivers of the North / missing / barcode c10
+rehome 10 2 -> ok
+place-hold 2 300 1 -> hold 1
+check-in 30 2 -> fine 0 transit 1 for 1
+copy 30 -> copy 30 home 1 kind 2 price 800 title 300 Night Ferries / transit 1 for 1 patron 2 Bo Carr / barcode C30
+check-in 30 1 -> fine 0 ready 1 at 1 until 2026-03-07
+copy 30 -> copy 30 home 1 kind 2 price 800 title 300 Night Ferries / ready 1 at 1 until 2026-03-07 patron 2 Bo Carr / barcode C30
+withdraw 10 -> ok
+copy 10 -> copy 10 home 2 kind 1 price 900 title 100 Rivers of the North / withdrawn / barcode c10
+copies 100 0 -> title 100 Rivers of the North / copy 10 withdrawn / copy 11 shelf 1 / end
+find-barcode c10 -> copy 10
+acquire 10 100 1 2 900 'Rivers of the North' -> ok
+copy-barcode 10 c11 -> ok
+find-barcode c11 -> copy 10
+
+# charges, and what is paid at a counter
+charge 9 1000001 9 Card -> refused 21
+charge 9 0 9 Card -> refused 11
+charge 2 0 9 Card -> refused 10
+charge 2 0 1 Card -> refused 60
+pay-at 9 0 9 -> refused 11
+pay-at 2 0 9 -> refused 10
+pay-at 2 0 1 -> refused 60
+pay-at 2 1 1 -> refused 60
+till-at 9 2026-03-02 -> refused 10
+till-at 0 2026-03-02 -> refused 10
+till-at 1 2026-03-02 -> till 2026-03-02 at 1 / payments               0 / charges                0
+till 2026-03-02 -> till 2026-03-02 / SUMS 0 0 0 0
+charge 2 1000000 1 'Lost card, 1' -> owed 1000000
+charge 2 1 2 7 -> owed 1000001
+pay-at 2 1000002 1 -> refused 60
+check-out 2 10 1 -> refused 38
+debts 0 -> patron 2 owed 1000001 name Bo Carr / end
+pay-at 2 999998 2 -> owed 3
+pay 2 1 -> owed 2
+waive 2 1 -> owed 1
+page 2 -> patron 2 owed 1 name Bo Carr
+borrower 2 -> patron 2 owed 1 name Bo Carr / kind 1
+account 2 0 -> patron 2 owed 1 name Bo Carr / line 1 2026-03-02 charge 1000000 at 1 for Lost card, 1 / line 2 2026-03-02 charge 1 at 2 for 7 / line 3 2026-03-02 payment 999998 at 2 / line 4 2026-03-02 payment 1 / line 5 2026-03-02 waiver 1 / end
+account 2 3 -> patron 2 owed 1 name Bo Carr / line 4 2026-03-02 payment 1 / line 5 2026-03-02 waiver 1 / end
+till 2026-03-02 -> till 2026-03-02 / SUMS 0 0 999999 1 1000001
+till-at 1 2026-03-02 -> till 2026-03-02 at 1 / payments               0 / charges          1000000
+till-at 2 2026-03-02 -> till 2026-03-02 at 2 / payments          999998 / charges                1
+pay-at 2 1 1 -> owed 0
+pay-at 2 1 1 -> refused 60
+till-at 1 2026-03-02 -> till 2026-03-02 at 1 / payments               1 / charges          1000000
+debts 0 -> end
+check-out 2 10 1 -> loan 1 due 2026-03-09
+
+# a day's till has its own charges, and fines and prices are made at no counter
+charge 1 30 1 Copies -> owed 30
+check-out 2 10 1 -> loan 1 due 2026-03-09
+begin-day 2026-03-17 -> ok
+till 2026-03-17 -> till 2026-03-17 / SUMS 0 0 0 0
+check-in 10 1 -> fine 100 shelf 1
+till 2026-03-17 -> till 2026-03-17 / SUMS 100 0 0 0
+pay-at 2 40 1 -> owed 60
+till 2026-03-17 -> till 2026-03-17 / SUMS 100 0 40 0
+till-at 1 2026-03-17 -> till 2026-03-17 at 1 / payments              40 / charges                0
+till-at 2 2026-03-17 -> till 2026-03-17 at 2 / payments               0 / charges                0
+charge 2 5 2 'Copies, 1' -> owed 65
+till 2026-03-17 -> till 2026-03-17 / SUMS 100 0 40 0 5
+till-at 1 2026-03-17 -> till 2026-03-17 at 1 / payments              40 / charges                0
+till-at 2 2026-03-17 -> till 2026-03-17 at 2 / payments               0 / charges                5
+till 2026-03-02 -> till 2026-03-02 / SUMS 0 0 0 0 30
+till-at 1 2026-03-02 -> till 2026-03-02 at 1 / payments               0 / charges               30
+till-at 1 2199-12-31 -> till 2199-12-31 at 1 / payments               0 / charges                0
+amend-branch 1 5 'Main Street' -> ok
+account 2 0 -> patron 2 owed 65 name Bo Carr / line 2 2026-03-17 fine 100 loan 1 title 100 Rivers of the North / line 3 2026-03-17 payment 40 at 1 / line 4 2026-03-17 charge 5 at 2 for Copies, 1 / end
+
 # more than a hundred rows
 counted 101 acquire 1001 500 1 1 900 Charts -> ok
 copies 500 0 -> title 500 Charts / ROWS / after 1100
@@ -609,6 +744,8 @@ DESK = DESK.replace("HILLS", " / ".join(f"branch {number} pickup 5 week ooooooo 
 DESK = DESK.replace("KINDS", " / ".join(f"kind {number} loans 1 holds 2 debt 30" for number in range(2, 100)))
 DESK = DESK.replace("RULES", "\n".join(f"rule 99 {number} {number} 1 20 100 -> ok" for number in reversed(range(1, 100))))
 DESK = DESK.replace("RULED", " / ".join(f"rule 99 {number} period {number} renewals 1 rate 20 cap 100 grace 0" for number in range(1, 100)))
+DESK = re.sub("SUMS((?: [0-9]+)+)", lambda it: " / ".join(
+    f"{name:<9}{cents:>15}" for name, cents in zip(("fines", "prices", "payments", "waivers", "charges"), it[1].split())), DESK)
 DESK = re.sub("WEEKS ([0-9]+) ([0-9]+)", lambda it: " / ".join(
     f"day {datetime.date(2026, 3, 9) + datetime.timedelta(7 * week)}" for week in range(int(it[1]), int(it[2]) + 1)), DESK)
 
@@ -728,6 +865,16 @@ card-key 1 cardkey00001 -> ok
 1/cardkey00001 rules 1 0 -> refused 81
 1/cardkey00001 missing-copies 0 -> refused 81
 1/cardkey00001 loans 10 0 -> refused 81
+copy-barcode 10 c1 -> ok
+charge 1 30 1 Copies -> owed 30
+1/cardkey00001 copy-barcode 10 c2 -> refused 81
+1/cardkey00001 patron-barcode 1 p1 -> refused 81
+1/cardkey00001 drop-barcode c1 -> refused 81
+1/cardkey00001 charge 1 30 1 Copies -> refused 81
+1/cardkey00001 pay-at 1 30 1 -> refused 81
+1/cardkey00001 find-barcode c1 -> refused 81
+1/cardkey00001 till-at 1 2026-03-02 -> refused 81
+1/cardkey00001 page 1 -> patron 1 owed 30 name Ann Bell / loan 1 due 2026-03-26 renewals 0 title 300 Day Ferries
 """
 
 # The form of the page of a patron with no loan and no hold.
@@ -737,7 +884,8 @@ PAGE = "patron P owed N name NAME"
 OF_REPORTS = {
     "overdue": [OVERDUE_HEAD, " +LOAN +PATRON +COPY DAY +LATE TEXT"],
     "shelf": [SHELF_HEAD, " +HOLD +COPY +PATRON DAY TEXT"],
-    "till": ["till DAY", *(f"{name} +CENTS" for name in ("fines", "prices", "payments", "waivers"))],
+    "till": ["till DAY", *(f"{name} +CENTS" for name in ("fines", "prices", "payments", "waivers", "charges"))],
+    "till-at": ["till DAY at B", "payments +CENTS", "charges +CENTS"],
 }
 
 
@@ -830,13 +978,19 @@ def commands():
 
 def forms_of_questions(text):
     """The forms of the lines that each question is answered by, as docs/RULES.md has them: of a copy, a borrower,
-    today, the lists, and the till report. PLACE is left as it is where nobody is told with it."""
+    today, what has a barcode, the lists, and the till reports. PLACE is left as it is where nobody is told with it."""
     told = re.search(r"^A copy is shown in two lines, ([^(]*)", text, re.MULTILINE)[1]
-    forms = {"copy": re.findall("`(.*?)`", told), "till": OF_REPORTS["till"]}
+    forms = {"copy": re.findall("`(.*?)`", told), **{name: OF_REPORTS[name] for name in ("till", "till-at")}}
     check("a copy, and how many forms its place has", len(forms["copy"]), 8)
     *forms["borrower"], today = re.findall("`(.*?)`", re.search(r"^A borrower is shown in two lines, ([^(]*)", text, re.MULTILINE)[1])
     forms["today"] = [today]
     places = [re.sub(" patron P NAME$", "", form) for form in forms["copy"][1:]]
+    third, found = re.search(r"^A third line, (.*?)\. `find-barcode` (.*?)\.$", text,
+                             re.MULTILINE | re.DOTALL).groups()
+    labels, forms["find-barcode"] = re.findall("`(.*?)`", third), re.findall("`(.*?)`", found)
+    check("how many lines tell a barcode", len(labels), 1)
+    for name in ("copy", "borrower"):
+        forms[name] += labels
     table = re.search(r"^\| list \| head \| row \|\n\|-.*\n((?:\|.*\n)+)", text, re.MULTILINE)[1]
     for name, head, rows_ in re.findall(r"^\| ([a-z-]+) \| (.*) \| (.*) \|$", table, re.MULTILINE):
         each = [form.replace("PLACE", place) for form in re.findall("`(.*?)`", f"{head} {rows_}") for place in (places if "PLACE" in form else [""])]
@@ -847,8 +1001,8 @@ def forms_of_questions(text):
 
 def has_form(answer, form):
     """Whether a line has a form, in which capitals stand for what differs."""
-    form = form.replace("MASK", "[oc]{7}")
-    return re.fullmatch(re.sub("NAME|TEXT", ".*", re.sub(r"\b(?!NAME|TEXT)[A-Z]+\b", "[0-9-]+", form)), answer)
+    form = re.sub(r"\b(?!NAME|TEXT|BARCODE)[A-Z]+\b", "[0-9-]+", form.replace("MASK", "[oc]{7}"))
+    return re.fullmatch(re.sub("NAME|TEXT", ".*", form).replace("BARCODE", "[A-Za-z0-9]{1,24}"), answer)
 
 
 def none_is_left_out(lines, wanted):

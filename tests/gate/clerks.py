@@ -35,11 +35,13 @@ from lib.runs import GROUND, circ, rows
 from lib.serving import ANNS_PAGE, DESK_KEY, Serving, a_library, by_patron, free_port, put_keys, started, told
 from reference.desk_rules import ONLY_ASK, Library
 from reference.outer_forms import WORDS, read_keys, said
+from stories import stories_of
 
 PROGRAM = program()
 ANN, BO, KIOSK = ("ann", "desk", "annkey000001"), ("bo", "desk", "bokey0000001"), ("kiosk", "lending", "kioskkey0001")
 CLERKS = [ANN, BO, KIOSK]
-MAY = ("check-out", "check-in", "renew", "page", "copy", "borrower", "today")  # what a lending clerk may send
+MAY = ("check-out", "check-in", "renew", "page", "copy", "borrower", "find-barcode",
+       "today")  # what a lending clerk may send
 KEYS = (*(key for _, _, key in CLERKS), DESK_KEY)
 A_LINE = b"ann desk annkey000001\n"
 BO_LINE = b"bo desk bokey0000001\n"
@@ -329,6 +331,51 @@ def worked(place):
     check("whose hand each was", names, ["ann", "ann", "kiosk", "ann", "bo", "kiosk", "bo", "ann"])
 
 
+# What clerks send after the story of barcodes and counters: the key that is shown, the request's own, the words and the
+# answer.
+AT_COUNTERS = [
+    (ANN[2], "r1", "pay-at 2 10 1", "owed 3090"),
+    (BO[2], "r1", "pay-at 2 10 1", "owed 3080"),
+    (ANN[2], "r1", "pay-at 2 10 1", "owed 3090"),
+    (ANN[2], "r1", "pay-at 2 11 1", "refused 80"),
+    (KIOSK[2], "q1", "find-barcode a1", "copy 10"),
+    (KIOSK[2], "q2", "borrower 3", "patron 3 owed 600 name Cy Dunn\nkind 1\nbarcode 30000100000010"),
+    (KIOSK[2], "q3", "check-in 12 1", "fine 0 shelf 1"),
+    (KIOSK[2], "q4", "waive 2 1", "refused 81"),
+    (KIOSK[2], "q5", "find-patrons 0 ann", "refused 81"),
+    (KIOSK[2], "q6", "pay-at 2 10 1", "refused 81"),
+    (KIOSK[2], "q7", "charge 2 10 1 Copies", "refused 81"),
+    (KIOSK[2], "q8", "till-at 1 2026-03-17", "refused 81"),
+    (KIOSK[2], "q9", "drop-barcode a1", "refused 81"),
+    (DESK_KEY, "s1", "today", "refused 81"),
+]
+
+
+def at_counters(place):
+    """The worked requests of clerks at counters, on the library that the story of barcodes and counters leaves."""
+    path, library = a_library(place, "counters.db"), Library()
+    for key, words, _ in GROUND:
+        library.handle(key, words)
+    (story,) = stories_of(os.path.join(TOP, "tests", "data", "stories", "labels.txt"))
+    asked = [(step, key, words) for step in story.steps for key,
+             words in step.requests() if step.answer != ["words not understood"]]
+    with Serving(path, len(asked)) as serving:
+        for step, key, words in asked:
+            found = serving.desk(key,
+                                 words) if step.patron is None else serving.ask(*by_patron(step.patron,
+                                     step.card_key, key, words))[:2]
+            check(f"{key} {words}", found, told(step.by_rules(library, key, words)))
+    with Serving(path, len(AT_COUNTERS) + 1, clerks=CLERKS, workers=8) as serving:
+        for shown, key, text, answer in AT_COUNTERS:
+            words = text.split()
+            check(f"{key} {words} by the rules", said(library, CLERKS, None, shown, key, words), answer)
+            check(f"{key} {words}", serving.desk(key, words, shown), told(answer))
+        tried(["send", str(serving.port), f"@{path}.keys", "s1", "today"], '{"reply":"today 2026-03-17"}\n', 0)
+    runs.the_rows_are(path, library)
+    kept = rows(path, "SELECT key, reply FROM kept WHERE text = 'pay-at 2 10 1' ORDER BY rowid")
+    check("whose hand each payment was", kept, [("ann/r1", "owed 3090"), ("bo/r1", "owed 3080")])
+
+
 def sent(place):
     """`circ send @FILE` uses the key of the first line, whoever stands there and whatever file the desk has."""
     path, library = a_library(place, "sent.db"), Library()
@@ -354,8 +401,10 @@ def sent(place):
 EACH = [it.split() for it in (
     "begin-day 2026-03-03", "branch 3 5 Hill", "week 2 ooooooo", "close-day 1 2026-12-24", "open-day 1 2026-12-24", "kind 2 2 2 500", "rule 2 1 6 1 20 100", "grace 2 1 1", "patron 4 1 cardkey00004 Di", "acquire 12 100 1 1 2500 Rivers",
     "card-key 1 newkey000001", "amend-patron 1 1 Ann", "amend-branch 1 5 Main", "amend-title 100 Rivers", "amend-copy 10 1 2400", "rehome 30 2", "check-out 1 10 1", "renew 1", "check-in 10 1", "place-hold 2 200 1", "place-hold-from 3 100 1 2026-12-24",
-    "cancel-hold 1", "unshelve 2", "unshelve-cancelled 2", "missing 11", "withdraw 11", "pay 1 1", "waive 1 1", "page 1")]
-EACH += every_question(P="1", C="10", B="1", T="100", K="1", N="2026-03-02", A="0", F="rivers")
+    "cancel-hold 1", "unshelve 2", "unshelve-cancelled 2", "missing 11", "withdraw 11", "charge 1 10 1 Copies",
+    "pay 1 1", "waive 1 1", "pay-at 1 1 1",
+    "copy-barcode 10 c10", "patron-barcode 1 p1", "drop-barcode p1", "page 1")]
+EACH += every_question(P="1", C="10", B="1", T="100", K="1", N="2026-03-02", A="0", F="rivers", W="c10")
 
 
 def lending(place):
@@ -427,6 +476,10 @@ HANDS = [
     (BO, "b3", "place-hold-from 2 200 1 2026-05-02", "hold 3"), (1, "r1", "renew 1", "loan 1 due 2026-03-16"), (ANN, "d1", "begin-day 2026-03-25", "ok"), (KIOSK, "i1", "check-in 10 1", "fine 100 shelf 1"),
     (ANN, "m1", "missing 11", "fine 100 price 2500"), (ANN, "m2", "pay 1 10", "owed 90"), (BO, "m2", "pay 1 10", "owed 80"), (BO, "w1", "waive 1 10", "owed 70"), (ANN, "m3", "pay 1 20", "owed 50"), (ANN, "m4", "pay 2 10", "owed 2590"),
     (BO, "m5", "pay 1 10", "owed 40"), (ANN, "w2", "waive 1 10", "owed 30"), (KIOSK, "k1", "check-out 1 10 1", "loan 3 due 2026-03-31"), (ANN, "i2", "check-in 10 1", "fine 0 shelf 1"),
+    (ANN, "q1", "charge 1 10 1 Photocopies", "owed 40"), (BO, "q2", "charge 1 10 1 Photocopies", "owed 50"),
+    (ANN, "q3", "charge 1 10 1 Card", "owed 60"), (BO, "q4", "charge 1 10 2 Photocopies", "owed 70"),
+    (ANN, "q5", "pay-at 1 10 1", "owed 60"), (BO, "q6", "pay-at 1 10 2", "owed 50"),
+    (ANN, "q7", "pay-at 1 10 2", "owed 40"), (BO, "q8", "pay 1 10", "owed 30"),
 ]
 # What each query of docs/OPERATIONS.md tells of each number.
 TOLD = {
@@ -434,13 +487,17 @@ TOLD = {
     ("loan = 7", "loan = {}"): {1: (0, "kiosk/i1", "check-in 10 1"), 2: (0, "ann/m1", "missing 11"), 3: (0, "ann/i2", "check-in 10 1"), 4: None, 5: None},
     ("'hold 3'", "'hold {}'"): {1: (1, "p1", "place-hold 1 200 1"), 2: (0, "bo/b2", "place-hold 3 300 1"), 3: (0, "bo/b3", "place-hold-from 2 200 1 2026-05-02"), 4: None},
     ("= 12", "= {}"): {1: None, 2: None, 3: None, 4: (0, "ann/m2", "pay 1 10"), 5: (0, "bo/m2", "pay 1 10"), 6: (0, "bo/w1", "waive 1 10"), 7: (0, "ann/m3", "pay 1 20"), 8: (0, "ann/m4", "pay 2 10"), 9: (0, "bo/m5", "pay 1 10"),
-                       10: (0, "ann/w2", "waive 1 10"), 11: None},
+                       10: (0, "ann/w2", "waive 1 10"),
+                       11: (0, "ann/q1", "charge 1 10 1 Photocopies"), 12: (0, "bo/q2", "charge 1 10 1 Photocopies"),
+                       13: (0, "ann/q3", "charge 1 10 1 Card"), 14: (0, "bo/q4", "charge 1 10 2 Photocopies"),
+                       15: (0, "ann/q5", "pay-at 1 10 1"), 16: (0, "bo/q6", "pay-at 1 10 2"),
+                       17: (0, "ann/q7", "pay-at 1 10 2"), 18: (0, "bo/q8", "pay 1 10"), 19: None},
 }
 
 
 def who_did_it(place):
-    """The queries of docs/OPERATIONS.md, on a backup: whose hand a loan, its end, a hold, a payment and a waiver
-    was."""
+    """The queries of docs/OPERATIONS.md, on a backup: whose hand a loan, its end, a hold, a payment, a waiver and a
+    charge was."""
     path = a_library(place, "who.db")
     with Serving(path, len(HANDS), clerks=CLERKS) as serving:
         for who, key, text, answer in HANDS:
@@ -599,6 +656,7 @@ def main():
         part(as_shown, place)
         part(who_may_read, place)
         part(worked, place)
+        part(at_counters, place)
         part(sent, place)
         part(lending, place)
         part(over_the_years, place)

@@ -72,6 +72,9 @@ REFUSALS = [
     (["amend-copy", "99", "1", "1"], 13),
     (["rehome", "99", "9"], 10),
     (["rehome", "99", "2"], 13),
+    (["copy-barcode", "99", "c1"], 13),
+    (["patron-barcode", "9", "p1"], 11),
+    (["drop-barcode", "c1"], 18),
     (["check-out", "1", "20", "9"], 10),
     (["check-out", "9", "20", "2"], 11),
     (["check-out", "1", "99", "2"], 13),
@@ -103,6 +106,14 @@ REFUSALS = [
     (["pay", "1", "1"], 60),
     (["waive", "9", "1"], 11),
     (["waive", "1", "1"], 60),
+    (["charge", "9", "1000001", "9", "Card"], 21),
+    (["charge", "9", "0", "9", "Card"], 11),
+    (["charge", "1", "0", "9", "Card"], 10),
+    (["charge", "1", "0", "1", "Card"], 60),
+    (["pay-at", "9", "0", "9"], 11),
+    (["pay-at", "1", "0", "9"], 10),
+    (["pay-at", "1", "0", "1"], 60),
+    (["pay-at", "1", "1", "1"], 60),
     (["copy", "99"], 13),
     (["copies", "999", "0"], 12),
     (["queue", "999", "0"], 12),
@@ -115,6 +126,8 @@ REFUSALS = [
     (["closed-days", "9", "0"], 10),
     (["rules", "9", "0"], 17),
     (["loans", "99", "0"], 13),
+    (["find-barcode", "c1"], 18),
+    (["till-at", "9", "2026-03-02"], 10),
 ]
 
 
@@ -245,21 +258,56 @@ BAD_REQUESTS = [
     ["loans", "10"],
     ["loans", "10", "01"],
     ["loans", "10", "0", "0"],
+    ["copy-barcode", "10"],
+    ["copy-barcode", "10", "A-1"],
+    ["copy-barcode", "10", ""],
+    ["copy-barcode", "10", "c 1"],
+    ["copy-barcode", "10", "c1 "],
+    ["copy-barcode", "10", "1" * 25],
+    ["copy-barcode", "c1", "10"],
+    ["copy-barcode", "010", "c1"],
+    ["copy-barcode", "10", "c1", "c2"],
+    ["patron-barcode", "1"],
+    ["patron-barcode", "1", "p_1"],
+    ["patron-barcode", "1", "\u00fc1"],
+    ["drop-barcode"],
+    ["drop-barcode", "c.1"],
+    ["drop-barcode", "10", "c1"],
+    ["charge", "1", "5", "1"],
+    ["charge", "1", "05", "1", "Card"],
+    ["charge", "1", "-5", "1", "Card"],
+    ["charge", "1", "5", "1", ""],
+    ["charge", "1", "5", "1", "Card "],
+    ["charge", "1", "5", "1", "-Card"],
+    ["charge", "1", "5", "1", "x" * 121],
+    ["charge", "1", "5", "1", "Lost", "card"],
+    ["pay-at", "1", "5"],
+    ["pay-at", "1", "5", "one"],
+    ["pay-at", "1", "5", "1", "Card"],
+    ["find-barcode"],
+    ["find-barcode", "1234567890123456789012345"],
+    ["find-barcode", "c1", "0"],
+    ["till-at", "1"],
+    ["till-at", "1", "2026-3-3"],
+    ["till-at", "1", "20514"],
+    ["till-at", "1", "2026-03-02", "0"],
+    ["till-at", "2026-03-02", "1"],
 ]
 
 
 def a_new_library(folder):
-    """A new file has the sixteen tables, their keys and indexes, and the first row of meta."""
+    """A new file has the eighteen tables, their keys and indexes, and the first row of meta."""
     path = os.path.join(folder, "new.db")
     check("a new file", circ(["file", path, "g1", "week", "1", "ooooooo"]), ("refused 10", 2))
-    check("meta", rows(path, "SELECT * FROM meta"), [(1, 3, 10957, 1, 1, 1)])
+    check("meta", rows(path, "SELECT * FROM meta"), [(1, 4, 10957, 1, 1, 1)])
     tables = "SELECT name FROM sqlite_schema WHERE type = 'table' AND name NOT LIKE 'sqlite%' ORDER BY rowid"
-    names = "meta branches closed_days kinds rules patrons titles copies loans holds transits lines kept holds2 rules3 loans3"
+    names = "meta branches closed_days kinds rules patrons titles copies loans holds transits lines kept holds2 rules3 loans3 barcodes notes"
     check("tables", [name for (name,) in rows(path, tables)], names.split())
     for name in names.split()[1:]:
         check(f"no row of {name}", rows(path, f"SELECT COUNT(*) FROM {name}"), [(0,)])
         check(f"no foreign key of {name}", rows(path, f"PRAGMA foreign_key_list({name})"), [])
-    keys = {"closed_days": "branch day", "rules": "kind copy_kind", "rules3": "kind copy_kind", "kept": "caller key"}
+    keys = {"closed_days": "branch day", "rules": "kind copy_kind", "rules3": "kind copy_kind",
+            "kept": "caller key", "barcodes": "sort number"}
     for name in names.split():
         columns = rows(path, f"PRAGMA table_info({name})")
         first = " ".join(column[1] for column in columns if column[5])
@@ -268,12 +316,15 @@ def a_new_library(folder):
     check("one UNIQUE", len(rows(path, unique)), 1)
     indexes = "SELECT name FROM sqlite_schema WHERE type = 'index' AND sql IS NOT NULL ORDER BY rowid"
     wanted = """loans_copy loans_patron holds_copy holds_patron holds_title holds_branch lines_day loans_branch holds2_copy holds2_patron
-        holds2_title holds2_branch loans3_copy loans3_patron loans3_branch copies_title lines_patron holds2_state loans3_of_copy copies_condition"""
+        holds2_title holds2_branch loans3_copy loans3_patron loans3_branch copies_title lines_patron holds2_state loans3_of_copy copies_condition barcodes_barcode notes_branch"""
     check("indexes", [name for (name,) in rows(path, indexes)], wanted.split())
     check("the index of a title's line", rows(path, "SELECT sql FROM sqlite_schema WHERE name = 'holds2_title'"),
           [("CREATE INDEX holds2_title ON holds2 (title, state, first_day, hold)",)])
-    check("the five indexes that came last", [text for (text,) in rows(path, "SELECT sql FROM sqlite_schema WHERE type = 'index' AND sql IS NOT NULL ORDER BY rowid")[-5:]],
-          indexes_by_hand())
+    made = [text for (text,) in rows(path,
+                                     "SELECT sql FROM sqlite_schema WHERE type = 'index' AND sql IS NOT NULL ORDER BY rowid")]
+    check("the five indexes that came last in schema 3", made[-7:-2], indexes_by_hand())
+    check("the indexes of schema 4", made[-2:],
+          ["CREATE INDEX barcodes_barcode ON barcodes (barcode)", "CREATE INDEX notes_branch ON notes (branch, line)"])
     empty = os.path.join(folder, "empty.db")
     open(empty, "w").close()
     say(empty, [("g1", ["begin-day", "2026-03-02"], "ok")])
@@ -300,7 +351,7 @@ def a_small_library(folder):
     check("loans", rows(path, "SELECT * FROM loans3"),
           [(1, 10, 1, 1, 20514, 20521, 6, 1, 20, 100, None, 0),
            (2, 11, 1, 1, 20514, 20521, 6, 1, 20, 100, None, 0)])
-    check("meta", rows(path, "SELECT * FROM meta"), [(1, 3, 20514, 3, 1, 1)])
+    check("meta", rows(path, "SELECT * FROM meta"), [(1, 4, 20514, 3, 1, 1)])
     check("kept", rows(path, "SELECT * FROM kept WHERE key IN ('g1', 'k1', 'k2') ORDER BY key"),
           [(0, "g1", "begin-day 2026-03-02", "ok"),
            (0, "k1", "check-out 1 10 1", "loan 1 due 2026-03-09"),
@@ -439,7 +490,7 @@ def bad_files(folder, path):
     check("another meta", circ(["file", namesake, *words]), ("fault 93", 3))
     later = os.path.join(folder, "later.db")
     shutil.copy(path, later)
-    write(later, "UPDATE meta SET schema = 4")
+    write(later, "UPDATE meta SET schema = 5")
     before = whole(later)
     check("a later schema", circ(["file", later, *words]), ("fault 93", 3))
     check("it stays", whole(later), before)

@@ -32,8 +32,12 @@ from lib.messages import message
 from lib.questions import FORMS as FORMS_OF_QUESTIONS
 from lib.runs import GROUND, PROGRAM, say
 from lib.serving import DESK_KEY, Serving, everything
-from reference.desk_rules import CORRECTIONS, QUESTIONS, SEARCHES, Library
-from reference.outer_forms import HEADER, HEAD_BYTES, MARK, MOST_LEVELS, WORDS, Failed, answer_to, is_card_key, is_day, is_mask, is_name, lines_of, read_request
+from reference.desk_rules import CORRECTIONS, LABELS, QUESTIONS, SEARCHES, Library
+from reference.outer_forms import (
+    HEADER, HEAD_BYTES, MARK, MOST_LEVELS, WORDS, Failed, answer_to, is_barcode, is_card_key, is_day, is_mask,
+    is_name, lines_of,
+    read_request,
+)
 
 SEED, CASES = 28, 10_000
 TOLD = 25_000  # after as many cases a long run tells that it goes on
@@ -49,6 +53,7 @@ ODD_DAYS = ["2026-3-3", "2026-02-29", "2028-02-29", "2026-13-01", "2191-01-01", 
 GRACE = ["0", "1", "1", "1", "2", "3", "365", "366"]
 PATRONS, TITLES, COPIES = ["1", "2", "3"], ["100", "200", "300"], ["10", "11", "20", "30"]
 AFTERS = ["0", "0", "0", "1", "2", "10", "4294967295"]  # from which a list goes on
+CHARGED = ["1", "30", "250", "0", "1000000", "1000001"]  # cents
 DAYS_AFTER = ["0", "0", "20514", "20515", "20521", "20550", "84005"]  # and a list of days
 NAMED = {"P": PATRONS, "C": COPIES, "B": PATRONS, "T": TITLES, "K": ["1", "1", "2"], "A": AFTERS}
 # What questions, corrections and what lends mostly name, by their words.
@@ -56,7 +61,10 @@ MOSTLY = {
     **{name: [NAMED[it] for it in form.split() if it in NAMED] for name, form in FORMS_OF_QUESTIONS.items()},
     "check-out": [PATRONS, COPIES, ["1", "1", "2"]], "check-in": [COPIES, ["1", "2"]], "renew": [["1", "2", "3"]],
     "card-key": [PATRONS], "amend-patron": [PATRONS, ["1", "1", "2"]], "amend-branch": [["1", "2"], ["0", "3", "60", "61"]], "amend-title": [TITLES], "amend-copy": [COPIES, ["1", "2"]],
-    "rehome": [COPIES, ["1", "2"]], "closed-days": [["1", "2"], DAYS_AFTER],
+    "rehome": [COPIES, ["1", "2"]], "closed-days": [["1", "2"], DAYS_AFTER], "copy-barcode": [COPIES],
+    "patron-barcode": [PATRONS],
+    "charge": [PATRONS, CHARGED, ["1", "2"]], "pay-at": [PATRONS, ["1", "10", "30"], ["1", "2"]],
+    "till-at": [["1", "2"], ["2026-03-02", "2026-03-03", "2026-03-09"]],
 }
 SOUGHT = ["n", "bell ann", "ÁNN", "R c", "o", "rivers NORTH", "s  r", "bucher", "日本", "x", "7", "maps old"]
 MASKS, ODD_MASKS = ["ooooooc", "coooooc", "ooooooo"], ["ccccccc", "oooooo", "oooooooo", "OOOOOOO", "oooooox"]
@@ -64,8 +72,12 @@ NAMES = ["Main", "Hill", "Rivers of the North", "Salt Roads", "Night Ferries", "
 ODD_NAMES = ["", " Hill", "Hill ", "x" * 121, "ü" * 60, "ü" * 60 + "x", "a\nb", "a\tb", "a\x7fb", "a\x00b", "-Hill"]
 CARD_KEYS = ["cardkey00001", "cardkey00002", "cardkey00003"]
 ODD_CARD_KEYS = ["cardkey00009", "short", "c" * 8, "c" * 32, "c" * 33, "card-key-1", "cardkey0000\u00e9", "", DESK_KEY.upper(), "CARDKEY00001"]
+# mostly one of them, so that it is there already, or is found
+BARCODES = ["a1", "a1", "a1", "a1", "A1", "01", "1", "x" * 24]
+ODD_BARCODES = ["", "x" * 25, "a-1", " a1", "a1 ", "\u00fc1", "\u0661", "a_1", "00"]
 CLERKS = [("ann", "desk", "annkey000001"), ("bo", "desk", "bokey0000001"), ("kiosk", "lending", "kioskkey0001")]
-FORMS = {is_day: (DAYS, ODD_DAYS), is_mask: (MASKS, ODD_MASKS), is_name: (NAMES, ODD_NAMES), is_card_key: (CARD_KEYS, ODD_CARD_KEYS)}
+FORMS = {is_day: (DAYS, ODD_DAYS), is_mask: (MASKS, ODD_MASKS), is_name: (NAMES, ODD_NAMES),
+         is_card_key: (CARD_KEYS, ODD_CARD_KEYS), is_barcode: (BARCODES, ODD_BARCODES)}
 METHODS = ["GET", "POST", "PUT", "DELETE", "get", "Post", "G", "HEAD", "OPTIONS", "G\u00cbT", "", "GET,", "M-SEARCH"]
 VERSIONS = ["HTTP/1.0", "HTTP/1.1", "HTTP/1.1", "HTTP/1.1", "HTTP/1.2", "HTTP/2.0", "HTTP/0.9", "http/1.1", "HTTP/1.1 ", "HTTP/1.", "HTTP/11", ""]
 LENGTHS = ["+5", "-1", "", "5 5", "0x5", "00000000005", "0000000005", "12345678901", "65536", "65537", "4294967296", "5,5", "5.0", "\u0665", "0", "1"]
@@ -109,7 +121,8 @@ class Cases:
 
     def words(self):
         """Words of the desk."""
-        name = self.rng.choice([*WORDS, "grace", "check-out", "check-in", "place-hold", "place-hold-from", "renew", "pay"])
+        name = self.rng.choice([*WORDS, "grace", "check-out", "check-in", "place-hold", "place-hold-from", "renew", "pay",
+                                "copy-barcode", "find-barcode", "find-barcode", "charge", "pay-at", "pay-at"])
         words = [name] + [self.word(name, form) for form in WORDS[name]]
         for place, those in enumerate(MOSTLY.get(name, []), 1):
             words[place] = self.one_of(those, ODD_NUMBERS)
@@ -419,6 +432,8 @@ def main(seed=SEED, cases=CASES):
     check("each question was answered", [name for name in QUESTIONS if not shown[name]], [])
     check("holds with a first day were placed, and grace days set", (first_days > 0, accepted["grace"] > 0), (True, True))
     check("each correction was accepted", [name for name in CORRECTIONS if not accepted[name]], [])
+    check("barcodes were given and dropped, and counters used",
+          [name for name in (*LABELS, "charge", "pay-at") if not accepted[name]], [])
     check("requests of each clerk were accepted", [name for name, _, _ in CLERKS if not accepted[f"by {name}"]], [])
     told, hands = ", ".join(f"{many} {name}" for name, many in sorted(seen.items())), ", ".join(f"{many} {name}" for name, many in sorted(accepted.items()) if name.startswith("by "))
     print(f"fuzz: {seen.total()} cases by the seed {seed} in {time.monotonic() - began:.0f} seconds, {first_days} holds from a day on, {shown.total() - shown['none']} questions answered, {sum(accepted[name] for name in CORRECTIONS)} corrections accepted, grace days set {accepted['grace']} times, accepted {hands}: {told}")

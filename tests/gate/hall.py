@@ -27,7 +27,7 @@ from lib.checking import check, part, run_script
 from lib.questions import every_question
 from lib.runs import GROUND, rows, timed
 from lib.serving import ANN, ANNS_PAGE, BO, FAILED, HOLD, PAGE_OF_ANN, Serving, a_library, answer, by_patron, everything, hold_with, is_let_go, told
-from reference.desk_rules import Library
+from reference.desk_rules import QUESTIONS, Library
 
 HALF_A_HEAD = PAGE_OF_ANN[:30]
 NOT_ALLOWED = 403, b'{"refusal":81}'
@@ -413,13 +413,23 @@ def lending_of(patron):
         yield f"{key}p", ["amend-branch", "2", "3", f"Harbour-{turn}"]
         yield f"{key}q", ["kind", str(90 + patron), str(turn), "0", "0"]
         yield f"{key}r", ["rule", str(90 + patron), str(1 + turn), "7", "0", "0", "0"]
+        # barcodes, of which one is the copy's and then the patron's, and what is paid at a counter
+        yield f"{key}s", ["copy-barcode", number, f"b{number}"]
+        yield f"{key}t", ["patron-barcode", other, f"b{number}"]
+        yield f"{key}u", ["copy-barcode", number, f"c{number}x{turn}"]
+        yield f"{key}v", ["patron-barcode", other, f"b{number}"]
+        yield f"{key}w", ["charge", other, str(30 + turn), "2", "Copies"]
+        yield f"{key}x", ["pay-at", other, str(10 + turn), "1"]
+        yield f"{key}y", ["drop-barcode", f"b{number}"]
     yield f"q{patron}-renew", ["renew", on_loan]
 
 
 def asked_of(patron, turn):
     """What another clerk asks meanwhile about that patron, the title, the branches and the settings."""
-    number, other, lap = str(TITLES[patron]), str(patron + 4), turn // 20 % 2
-    return every_question(P=other, C=number, B=str(1 + (turn + lap) % 2), T=number, K=str(90 + patron), N=("2026-03-02", "2026-03-20")[lap], A="0", F="e")[turn % 20]
+    number, other, lap = str(TITLES[patron]), str(patron + 4), turn // len(QUESTIONS) % 2
+    asked_ = every_question(P=other, C=number, B=str(1 + (turn + lap) % 2), T=number, K=str(90 + patron),
+                            N=("2026-03-02", "2026-03-20")[lap], A="0", F="e", W=f"b{number}")
+    return asked_[turn % len(QUESTIONS)]
 
 
 class Seen:

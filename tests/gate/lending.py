@@ -146,7 +146,7 @@ def movements(folder):
     ])
     check("transits", rows(path, "SELECT * FROM transits"), [(30, 1, None)])
     check("conditions", rows(path, "SELECT copy, condition FROM copies ORDER BY copy"), [(10, 0), (11, 2), (20, 0), (30, 0)])
-    check("meta", rows(path, "SELECT * FROM meta"), [(1, 3, 20518, 1, 4, 1)])
+    check("meta", rows(path, "SELECT * FROM meta"), [(1, 4, 20518, 1, 4, 1)])
 
 
 def a_day_at_the_desk(folder):
@@ -183,12 +183,13 @@ def the_readme(folder):
 
 
 # A library with loans, one of them overdue, a hold that waits, one whose first day is to come, two that are ready, a
-# lost copy and an account.
+# lost copy, accounts with a charge, and barcodes.
 BEGUN = [shlex.join(words) for _, words, _ in GROUND] + [
     "acquire 12 101 1 1 900 'Slow Water'", "check-out 1 10 1", "check-out 1 11 1", "place-hold 2 100 1",
     "place-hold 3 300 1", "check-in 30 1", "place-hold 1 200 1", "check-in 20 1", "begin-day 2026-03-07",
     "check-out 3 12 1", "begin-day 2026-03-12", "missing 11", "pay 1 30", "place-hold-from 1 101 1 2026-03-13",
-    "kind 2 1 1 0", "rule 2 1 3 0 50 200", "close-day 1 2026-12-24",
+    "kind 2 1 1 0", "rule 2 1 3 0 50 200", "close-day 1 2026-12-24", "copy-barcode 10 c10", "patron-barcode 2 p2",
+    "charge 2 250 1 'Photocopies, 10 pages'",
 ]
 
 
@@ -199,14 +200,17 @@ CROWDED = [
     "place-hold-from 2 200 2 2026-03-13", "begin-day 2026-03-13", "cancel-hold 1", "unshelve 2", "unshelve-cancelled 3",
     "missing 30", "withdraw 11", "pay 1 30", "waive 1 2500", "page 1", "grace 1 1 2", "rule 1 1 6 1 20 100",
     "card-key 1 newkey000001", "amend-patron 1 2 Ann", "amend-branch 1 0 Hall", "amend-title 100 Rivers", "amend-copy 10 2 900",
-    "rehome 12 2", "rehome 20 1",
+    "rehome 12 2", "rehome 20 1", "copy-barcode 12 p2", "patron-barcode 1 p2", "drop-barcode p2",
+    "charge 1 40 2 Copies",
+    "pay-at 2 250 1",
 ]
 
 
 # What is asked after them, one after a pair; as many as have no divisor in common with the number of requests, so that
 # each comes after each of them.
 AFTER_PAIRS = [
-    *(" ".join(it) for it in every_question(P="1", C="10", B="1", T="100", K="1", N="2026-03-12", A="0", F="r")),
+    *(" ".join(it) for it in every_question(P="1", C="10", B="1", T="100", K="1", N="2026-03-12", A="0", F="r",
+                                            W="p2")),
     "pulls 2 0", "transits 2 0", "queue 101 0",
 ]
 
@@ -219,7 +223,7 @@ def every_pair(folder):
         words = shlex.split(text)
         line = rules.handle(f"s{at}", words)
         check(f"{text}", answers(begun, f"s{at}", words), (line + "\n", 0))
-    check("accounts have lines", {line["sort"] for line in rules.lines}, {"fine", "price", "payment"})
+    check("accounts have lines", {line["sort"] for line in rules.lines}, {"fine", "price", "payment", "charge"})
     replies, asked = set(), itertools.cycle(AFTER_PAIRS)
     for one in CROWDED:
         for other in CROWDED:
@@ -230,7 +234,8 @@ def every_pair(folder):
                 check(f"{one}, {other}", answers(pair, key, text.split()), (line + "\n", status_of(line)))
                 replies.add((text.split()[0], status_of(line)))
             words = next(asked).split()
-            check(f"{words} after {one}, {other}", answers(pair, "other", words), (library.handle("other", words) + "\n", 0))
+            line = library.handle("other", words)
+            check(f"{words} after {one}, {other}", answers(pair, "other", words), (line + "\n", status_of(line)))
             the_rows_are(pair, library)
     check("each command is accepted", {name for name, status in replies if status == 0}, {text.split()[0] for text in CROWDED})
 

@@ -19,7 +19,7 @@ from contextlib import closing
 
 import room  # finds lib and reference
 from lib.checking import check, part, run_script
-from lib.runs import GROUND, HEADER, PROGRAM, ROOM, answers, indexes_by_hand, memory_of, report, rows, say, take_in, the_rows_are, whole, write
+from lib.runs import GROUND, HEADER, PROGRAM, ROOM, answers, circ, indexes_by_hand, memory_of, report, rows, say, take_in, the_rows_are, whole, write
 from lib.serving import DESK_KEY, Serving, told
 from reference.desk_rules import EPOCH, MOST_LOOKED_AT, MOST_ROWS, SEARCHES, Library, finds
 
@@ -122,15 +122,24 @@ LATE = 100_000
 
 
 def a_long_report(folder):
-    """A report of 100,000 overdue loans takes about the memory of one of none: its rows are read by pages."""
+    """A report of 100,000 overdue loans takes about the memory of one of none: its rows are read by pages. So do the
+    sums of a day with as many charges and payments, of which each tenth was made at no counter."""
     path, out = os.path.join(folder, "late.db"), os.path.join(folder, "late.txt")
     say(path, GROUND)
     with closing(sqlite3.connect(path)) as db, db:
         each = range(1, LATE + 1)
         db.executemany("INSERT INTO copies VALUES (?, 100, 1, 1, 2500, 0)", ((1000 + n,) for n in each))
         db.executemany("INSERT INTO loans3 VALUES (?, ?, 1, 1, 20514, 20521, 6, 1, 20, 100, NULL, 0)", ((n, 1000 + n) for n in each))
-        db.execute("UPDATE meta SET next_loan = ?", (LATE + 1,))
+        made = {n: (("charge", 30) if n % 2 else ("payment", 20),
+                    None if n % 10 == 0 else 1 + n % 4 // 2) for n in each}
+        db.executemany("INSERT INTO lines VALUES (?, 2, 20529, ?, ?, NULL)",
+                       ((n, {"payment": 2, "charge": 4}[sort], amount) for n, ((sort, amount), _) in made.items()))
+        db.executemany("INSERT INTO notes VALUES (?, ?, ?)",
+                       ((n, at, "Copies" if n % 2 else None) for n, (_, at) in made.items() if at))
+        db.execute("UPDATE patrons SET owed = ? WHERE patron = 2", (LATE // 2 * 10,))
+        db.execute("UPDATE meta SET next_loan = ?, next_line = ?", (LATE + 1, LATE + 1))
     say(path, [("d1", ["begin-day", "2026-03-17"], "ok")])
+    check("its audit", circ(["audit", path]), ("sound", 0))
     least, status = memory_of(["report", path, "shelf", "2"], out)
     check("an empty shelf in a large library", status, 0)
     most, status = memory_of(["report", path, "overdue", "1"], out)
@@ -142,6 +151,17 @@ def a_long_report(folder):
     check("its rows", next((pair for pair in zip(lines[1:-1], wanted) if pair[0] != pair[1]), None), None)
     check("its end", (len(lines), lines[-1]), (LATE + 2, f"overdue {LATE}"))
     check(f"{most - least} KiB for the rows, of {ROOM}", most - least < ROOM, True)
+    for branch in (None, 1, 2):
+        words = ["report", path, "till", "2026-03-17"] if branch is None else ["file", path, "a1", "till-at",
+            str(branch), "2026-03-17"]
+        most, status = memory_of(words, out)
+        with open(out, encoding="utf-8") as file:
+            sums = [int(line.split()[1]) for line in file.read().splitlines() if line.startswith(("payments",
+                "charges"))]
+        wanted = [sum(amount for (it, amount),
+                      at in made.values() if it == sort and branch in (None, at)) for sort in ("payment", "charge")]
+        check(f"the sums of {words[3:]}", (status, sums), (0, wanted))
+        check(f"{most - least} KiB for {words[3:]}, of {ROOM}", most - least < ROOM, True)
     # of a list a hundred rows are read, and one more
     for words in (["overdue", "1", "0"], ["copies", "100", "0"], ["copies", "100", "90000"], ["copy", "90000"], ["transits", "1", "0"]):
         most, status = memory_of(["file", path, "a1", *words], out)
@@ -187,8 +207,13 @@ def with_long_lists(library):
         library.transits[6_000 + mixed(n)] = (2, 4 * n + 4) if n % 2 else (2, None)
         loan = {"copy": 4_000 + mixed(n), "patron": patron, "branch": 1, "made": day, "due": day, "period": 6, "renewals": 1, "rate": 20, "cap": 100, "grace": 0, "ended": None}
         library.loans.update({2 * n + 1: loan, 2 * n + 2: {**loan, "copy": 10, "ended": library.today}})
-        line = {"day": library.today, "sort": "price", "amount": 10 + n, "loan": 2 * n + 2}
+        line = {"day": library.today, "sort": "price", "amount": 10 + n, "loan": 2 * n + 2, "at": None, "text": None}
         library.lines += [{**line, "patron": patron}, {**line, "patron": 3}, {**line, "patron": 3, "sort": ("payment", "waiver")[n % 2], "amount": 5, "loan": None}]
+        # charges and payments at both counters, on two days
+        made = {**line, "patron": 3, "day": (library.today, day)[n % 3 // 2], "loan": None, "at": 1 + n % 2}
+        library.lines += [{**made, "sort": "charge", "amount": 7 + n, "text": f"Copies {n}"},
+                          {**made, "sort": "payment", "amount": 3}]
+        library.barcodes.update({("copy", 4_000 + mixed(n)): f"c{n}", ("patron", patron): f"{n:05}"})
         library.closed[1].add(library.today + datetime.timedelta(1 + 3 * mixed(n)))
         library.closed[1].add(day - datetime.timedelta(n % 90))
     # a hold whose copy travels for none is in the line behind it
@@ -237,7 +262,8 @@ def walked(path, library, words):
 
 def long_lists(folder):
     """Lists of many rows, part by part: each is that of the rules, from whatever number on it is asked for, and each
-    row is shown once. So it is without the five indexes that came last, and with those made by hand."""
+    row is shown once. So it is without the five indexes that came last in schema 3, and with those
+    made by hand."""
     path, library = os.path.join(folder, "lists.db"), Library()
     say(path, GROUND)
     for key, words, _ in GROUND:
@@ -255,6 +281,12 @@ def long_lists(folder):
             check(f"{asked}", answers(path, "a", asked), (library.handle("a", asked) + "\n", 0))
     check(f"lists are long: {lengths}", [it for it, many in lengths.items() if many < MANY - 60], [])
     check("lists of a hundred rows twice and one more", sum(many == MANY for many in lengths.values()) > 3, True)
+    for words in [[name, *branch, str(library.today - datetime.timedelta(days))] for days in (0, 1, 9) for name,
+                  *branch in (["till"], ["till-at", "1"], ["till-at", "2"])]:
+        check(f"{words}", answers(path, "a", words), (library.handle("a", words) + "\n", 0))
+    for words in [["find-barcode", it] for it in [*library.barcodes.values()][::29]] + [["borrower",
+        str(2_000 + n)] for n in range(0, MANY, 29)]:
+        check(f"{words}", answers(path, "a", words), (library.handle("a", words) + "\n", 0))
     for number in [*library.copies][::7]:
         check(f"copy {number}", answers(path, "a", ["copy", str(number)]), (library.handle("a", ["copy", str(number)]) + "\n", 0))
     made, old = "SELECT name, sql FROM sqlite_schema WHERE type = 'index' AND sql IS NOT NULL ORDER BY name", os.path.join(folder, "older.db")

@@ -23,17 +23,19 @@ from lib.messages import (
     of_run,
 )
 from lib.program import program
-from reference.outer_forms import WORDS, is_card_key, is_day, is_mask, is_name, is_number
+from reference.outer_forms import WORDS, is_barcode, is_card_key, is_day, is_mask, is_name, is_number
 
 PROGRAM = program()
 
 # A word in each form, and some that aren't.
-RIGHT = {is_number: "1", is_day: "2026-03-02", is_mask: "ooooooc", is_card_key: "cardkey00001", is_name: "Ann"}
+RIGHT = {is_number: "1", is_day: "2026-03-02", is_mask: "ooooooc", is_card_key: "cardkey00001", is_barcode: "01",
+         is_name: "Ann"}
 WRONG = {
     is_number: ["01", "4294967296", "one", ""],
     is_day: ["2026-02-30", "2200-01-01", "2026-3-2"],
     is_mask: ["oooooo", "Ooooooc"],
     is_card_key: ["short01", "c" * 33, "card key 01"],
+    is_barcode: ["", "a-1", "1" * 25, "a 1"],
     is_name: ["", " Ann", "A\tn", "a" * 121],
 }
 
@@ -144,7 +146,8 @@ def files_of_libraries(place, path):
     written."""
     later = os.path.join(place, "later.db")
     asks(["file", later, "k1", "begin-day", "2026-03-02"], "ok\n")
-    for schema, said in ((4, LATER), (2, OLDER), (1, OLDER), (0, FOREIGN)):
+    for schema, said in ((int(SCHEMA) + 1, LATER), *((it, OLDER) for it in range(int(SCHEMA) - 1, 0, -1)),
+                         (0, FOREIGN)):
         with closing(sqlite3.connect(later)) as conn:
             conn.execute(f"UPDATE meta SET schema = {schema}")
             conn.commit()

@@ -1,5 +1,5 @@
 #!/usr/bin/env python3
-"""`circ migrate` on libraries of schemas 1 and 2: what is carried over, what stays, and what is left where it meets
+"""`circ migrate` on libraries of schemas 1 to 3: what is carried over, what stays, and what is left where it meets
 damage, a fault or a stop.
 
     tests/gate/migrate.py
@@ -8,9 +8,9 @@ The old libraries stand in tests/data as texts of SQL: the program made them whe
 wrote them down (`sqlite3 FILE .dump`). Of each schema one is a new library; one is after the first requests of
 tests/data/month.txt, as many as that schema knew (`KNOWN`); and one after the first `HALF` requests of the month and
 those of patrons in `BY_PATRONS`, which came over the web: there are holds in every state, and copies that travel for
-some. That of schema 2 has the requests of `FIRST_DAYS` too, so a hold with a first day is ready, one is coming, one
-waits for its day and one is cancelled. What they hold is worked out here once more by the rules in plain Python, and
-what each step of a migration has to leave follows from it: nothing here is taken from the program.
+some. Those of schemas 2 and 3 have the requests of `FIRST_DAYS` too, so a hold with a first day is ready, one is
+coming, one waits for its day and one is cancelled. What they hold is worked out here once more by the rules in plain
+Python, and what each step of a migration has to leave follows from it: nothing here is taken from the program.
 """
 
 import fcntl
@@ -29,12 +29,16 @@ from room import TOP
 from lib import runs
 from lib.checking import check, part, run_script
 from lib.messages import DAMAGED_ROW, LATER, MEANINGS, OLDER, SCHEMA, as_it_is, is_held, message
-from lib.runs import CIRC, GROUND, HEADER, PROGRAM, ROOM, answers, circ, digest, kill_at_work, memory_of, month, rows, say, status_of, the_rows_are, timed, whole, write
+from lib.runs import (
+    CIRC, GROUND, HEADER, PROGRAM, ROOM, answers, circ, digest, indexes_by_hand, kill_at_work, memory_of, month,
+    rows, say,
+    status_of, the_rows_are, timed, whole, write,
+)
 from lib.serving import DESK_KEY, Serving, by_patron, told
 from reference.desk_rules import Library
 
-NEW, HOLDS, MONTH = ([f"schema{schema}_{it}" for schema in (1, 2)] for it in ("new", "holds", "month"))
-HALF, KNOWN = 642, {1: 732, 2: 771}
+NEW, HOLDS, MONTH = ([f"schema{schema}_{it}" for schema in (1, 2, 3)] for it in ("new", "holds", "month"))
+HALF, KNOWN = 642, {1: 732, 2: 771, 3: 1150}
 # What patrons asked for after these requests: the number of each, a key, and the words. One key is one that the desk
 # used too.
 BY_PATRONS = [
@@ -44,7 +48,7 @@ BY_PATRONS = [
     (6, "m2", ["cancel-hold", "11"], "ok"),
     (6, "c2", ["cancel-hold", "58"], "refused 15"),
 ]
-# What was asked after them of the library of schema 2: by a patron or, for 0, by the desk.
+# What was asked after them of the libraries of schemas 2 and 3: by a patron or, for 0, by the desk.
 FIRST_DAYS = [
     (0, "d1", ["place-hold-from", "5", "13", "3", "2026-03-31"], "hold 64"),
     (6, "d1", ["place-hold-from", "6", "13", "1", "2026-03-31"], "hold 65"),
@@ -60,7 +64,9 @@ NEWEST = int(SCHEMA)
 DONE = f"schema {NEWEST}"
 # What each schema has in another table than the one before it: the old table, the new one, and the value of its last
 # column in a row that is carried over.
-MOVED = {2: [("holds", "holds2", None)], 3: [("rules", "rules3", 0), ("loans", "loans3", 0)]}
+MOVED = {2: [("holds", "holds2", None)], 3: [("rules", "rules3", 0), ("loans", "loans3", 0)], 4: []}
+# The tables that each schema has beside these, which a migration makes empty.
+MADE = {2: [], 3: [], 4: ["barcodes", "notes"]}
 
 
 def old_library(name, path, journal="delete"):
@@ -73,7 +79,7 @@ def old_library(name, path, journal="delete"):
 
 def asked_after(name):
     """What was asked of an old library with holds after the beginning of the month."""
-    return BY_PATRONS + (FIRST_DAYS if name == HOLDS[1] else [])
+    return BY_PATRONS + (FIRST_DAYS if name != HOLDS[0] else [])
 
 
 def handle_after(library, name):
@@ -106,8 +112,10 @@ def schema_of(tables):
 
 def older(tables, schema):
     """The tables of an older schema that are led to these of the newest: rows have no column more, and stand in the
-    tables of before."""
+    tables of before; what it had no table for is none."""
     for at in range(NEWEST, schema, -1):
+        check(f"what schema {at} has tables for", [tables[name] for name in MADE[at]], [[] for _ in MADE[at]])
+        tables = {name: found for name, found in tables.items() if name not in MADE[at]}
         for old, new, _ in MOVED[at]:
             tables = {**tables, old: [row[:-1] for row in tables[new]]}
             tables = {name: found for name, found in tables.items() if name != new}
@@ -119,7 +127,7 @@ def led_on(tables):
     schema = schema_of(tables) + 1
     for old, new, value in MOVED[schema]:
         tables = {**tables, old: [], new: [(*row, value) for row in tables[old]]}
-    return named(tables, schema)
+    return named({**tables, **{name: [] for name in MADE[schema]}}, schema)
 
 
 def stages(tables):
@@ -190,14 +198,39 @@ def old_libraries(folder):
             check(f"the tables and indexes of {name}, {journal}", texts_of(path), texts_of(new))
             check(f"the audit of {name}", circ(["audit", path]), ("sound", 0))
             the_rows_are(path, library)
-    for name, travelling in zip(HOLDS, (4, 5)):
+    for name, travelling in zip(HOLDS, (4, 5, 5)):
         path = os.path.join(folder, f"{name}-wal.db")
         states = {state for (state,) in rows(path, "SELECT state FROM holds2")}
         coming = rows(path, "SELECT COUNT(*) FROM transits WHERE hold IS NOT NULL")
         loans = rows(path, "SELECT SUM(ended IS NULL) > 5, SUM(ended IS NOT NULL) > 50 FROM loans3")
         check(f"holds in every state were carried over, and open and ended loans, {name}", (states, coming, loans), ({0, 1, 2, 3, 4}, [(travelling,)], [(1, 1)]))
-    found = rows(path, "SELECT hold, state, copy, first_day FROM holds2 WHERE first_day IS NOT NULL ORDER BY hold")
-    check("first days were carried over", found, [(64, 1, 131, 20543), (65, 0, None, 20543), (66, 0, None, 20558), (67, 3, None, 20563)])
+        found = rows(path, "SELECT hold, state, copy, first_day FROM holds2 WHERE first_day IS NOT NULL ORDER BY hold")
+        firsts = [(64, 1, 131, 20543), (65, 0, None, 20543), (66, 0, None, 20558), (67, 3, None, 20563)]
+        check(f"first days were carried over, {name}", found, [] if name == HOLDS[0] else firsts)
+    path = os.path.join(folder, f"{MONTH[2]}-wal.db")
+    found = rows(path,
+                 "SELECT COUNT(DISTINCT grace) > 1 FROM loans3 UNION ALL SELECT COUNT(DISTINCT grace) > 1 FROM rules3")
+    check("grace days stay", found, [(1,), (1,)])
+
+
+def absent_indexes(folder):
+    """Of a library of schema 3 that was made before there were the five last indexes, or lacks some of them, those are
+    made that it lacks; one to which they were added by hand keeps them. The words IF NOT EXISTS, by which an index was
+    made, are no part of it."""
+    new, names = os.path.join(folder, "new.db"), [text.split()[2] for text in indexes_by_hand()]
+    say(new, [("g1", ["week", "1", "ooooooo"], "refused 10")])
+    lacking = [names, *([name] for name in names), names[:3], names[3:], names[::2]]
+    for at, absent in enumerate(lacking):
+        path = old_library(MONTH[2], os.path.join(folder, f"lacking{at}.db"), ("delete", "wal")[at % 2])
+        write(path, *(f"DROP INDEX {name}" for name in absent))
+        is_migrated(path, whole(path), f"a library without {absent}")
+        found = [(*it, sql and sql.replace(" IF NOT EXISTS", "")) for *it, sql in texts_of(path)]
+        check(f"the tables and indexes of a library without {absent}", found, texts_of(new))
+        the_rows_are(path, known(MONTH[2]))
+    path = old_library(HOLDS[2], os.path.join(folder, "by_hand.db"))
+    write(path, *(f"DROP INDEX {name}" for name in names), *indexes_by_hand())
+    is_migrated(path, whole(path), "a library with indexes made by hand")
+    check("its tables and indexes", texts_of(path), texts_of(new))
 
 
 def by_route(serving, patron, key, words):
@@ -238,6 +271,16 @@ def the_rest_of_the_month(folder, name):
         check(f"the overdue loans of {branch}", runs.report(path, "overdue", str(branch)), (library.overdue(branch), 0))
 
 
+def are_answered(path, library, requests):
+    """The requests are answered so by the rules and by the program, and lead to the same rows."""
+    with Serving(path, len(requests)) as serving:
+        for patron, key, words, line in requests:
+            check(f"{key} {words}, by the rules", library.handle(key, words, caller=patron), line)
+            found = by_route(serving, patron, key, words) if patron else serving.desk(key, words)
+            check(f"{key} {words} of {patron}", found, told(line))
+    the_rows_are(path, library)
+
+
 # What is asked of the library with holds in every state after it was migrated: the patron who asks, or 0 for the desk,
 # a key, the words and the answer. Two keys were kept before.
 FROM_A_DAY_ON = [
@@ -270,12 +313,7 @@ def holds_from_a_day_on(folder):
     path, library = old_library(HOLDS[0], os.path.join(folder, "from.db")), known(HOLDS[0])
     migrate(path)
     check("no first day is made up", rows(path, "SELECT DISTINCT first_day FROM holds2"), [(None,)])
-    with Serving(path, len(FROM_A_DAY_ON)) as serving:
-        for patron, key, words, line in FROM_A_DAY_ON:
-            check(f"{key} {words}, by the rules", library.handle(key, words, caller=patron), line)
-            found = by_route(serving, patron, key, words) if patron else serving.desk(key, words)
-            check(f"{key} {words} of {patron}", found, told(line))
-    the_rows_are(path, library)
+    are_answered(path, library, FROM_A_DAY_ON)
 
 
 # What is asked of a library with loans after it was migrated. Loan 76 was there before, and has no grace days, also
@@ -303,12 +341,48 @@ def grace_days(folder, name):
     path, library = old_library(name, os.path.join(folder, f"{name}.db")), known(name)
     migrate(path)
     check("no grace days are made up", rows(path, "SELECT DISTINCT grace FROM rules3 UNION SELECT DISTINCT grace FROM loans3"), [(0,)])
-    with Serving(path, len(WITH_GRACE)) as serving:
-        for patron, key, words, line in WITH_GRACE:
-            check(f"{key} {words}, by the rules", library.handle(key, words, caller=patron), line)
-            found = by_route(serving, patron, key, words) if patron else serving.desk(key, words)
-            check(f"{key} {words} of {patron}", found, told(line))
-    the_rows_are(path, library)
+    are_answered(path, library, WITH_GRACE)
+
+
+# What is asked of a library with accounts after it was migrated. Patron 3 owes the price of line 16, and line 17 is the
+# last that was made before.
+LABELLED = [
+    (0, "m1", ["begin-day", "2026-03-02"], "ok"),
+    (0, "m1", ["drop-barcode", "1"], "refused 80"),
+    (0, "l1", ["begin-day", "2026-04-01"], "ok"),
+    (0, "l2", ["find-barcode", "30000100000101"], "refused 18"),
+    (0, "l2", ["copy-barcode", "101", "30000100000101"], "ok"),
+    (0, "l3", ["patron-barcode", "3", "30000100000101"], "refused 26"),
+    (0, "l3", ["patron-barcode", "3", "20000000000003"], "ok"),
+    (0, "l4", ["find-barcode", "30000100000101"], "copy 101"),
+    (0, "l5", ["charge", "3", "250", "2", "Photocopies, 10 pages"], "owed 2050"),
+    (0, "l6", ["pay-at", "3", "50", "1"], "owed 2000"),
+    (0, "l7", ["pay", "3", "1000"], "owed 1000"),
+    (0, "l8", ["account", "3", "16"],
+     "patron 3 owed 1000 name Cy Elias\nline 18 2026-04-01 charge 250 at 2 for Photocopies, 10 pages\n"
+     "line 19 2026-04-01 payment 50 at 1\nline 20 2026-04-01 payment 1000\nend"),
+    (0, "l8", ["till-at", "1", "2026-04-01"],
+     "till 2026-04-01 at 1\npayments              50\ncharges                0"),
+    (0, "l8", ["till-at", "1", "2026-03-26"],
+     "till 2026-03-26 at 1\npayments               0\ncharges                0"),
+    (0, "l8", ["till", "2026-04-01"],
+     "till 2026-04-01\nfines                  0\nprices                 0\npayments            1050\n"
+     "waivers                0\ncharges              250"),
+    (0, "l8", ["borrower", "3"], "patron 3 owed 1000 name Cy Elias\nkind 1\nbarcode 20000000000003"),
+    (0, "l9", ["drop-barcode", "20000000000003"], "ok"),
+    (0, "l9", ["borrower", "3"], "patron 3 owed 1000 name Cy Elias\nkind 1"),
+    (0, "l2", ["copy-barcode", "101", "30000100000101"], "ok"),
+]
+
+
+def labels(folder, name):
+    """A library that was migrated takes barcodes, charges and payments at counters: its copies and patrons have no
+    barcode, and its lines no note."""
+    path, library = old_library(name, os.path.join(folder, f"{name}.db")), known(name)
+    migrate(path)
+    check("no barcode and no note is made up",
+          rows(path, "SELECT number FROM barcodes UNION ALL SELECT line FROM notes"), [])
+    are_answered(path, library, LABELLED)
 
 
 def on_a_terminal(folder):
@@ -373,7 +447,8 @@ def no_library(folder):
 
 
 # What is written into the row of `meta` of any schema past the desk, with which a library can't be led on.
-META = ["UPDATE meta SET schema = 0", "UPDATE meta SET schema = -1", "UPDATE meta SET schema = 9", "UPDATE meta SET schema = 4294967295", "UPDATE meta SET schema = 4294967297",
+META = ["UPDATE meta SET schema = 0", "UPDATE meta SET schema = -1", "UPDATE meta SET schema = 5",
+        "UPDATE meta SET schema = 9", "UPDATE meta SET schema = 4294967295", "UPDATE meta SET schema = 4294967297",
         "UPDATE meta SET schema = -9223372036854775808", "INSERT INTO meta VALUES (2, 1, 20514, 1, 1, 1)", "DELETE FROM meta", "DROP TABLE meta", "UPDATE meta SET id = 2",
         "UPDATE meta SET today = 10956", "UPDATE meta SET today = 84006", "UPDATE meta SET next_loan = 0", "UPDATE meta SET next_hold = 0", "UPDATE meta SET next_line = 0",
         "UPDATE meta SET next_loan = 2147483649", "UPDATE meta SET next_hold = 2147483649", "UPDATE meta SET next_line = 2147483649"]
@@ -398,15 +473,16 @@ def with_many_rows(path, name=HOLDS[0]):
         numbers = range(first, first + MANY)
         conn.executemany("INSERT INTO patrons VALUES (?, 1, ?, 'A reader', 0)", ((1_000 + n, f"cardkey{n:05}") for n in numbers))
         holds = "holds VALUES (?, ?, 1, 1, ?, NULL, NULL)" if schema == 1 else "holds2 VALUES (?, ?, 1, 1, ?, NULL, NULL, NULL)"
+        loans = "loans VALUES (?, 104, 1, 1, 20514, 20521, 6, 1, 20, 100, 20520)" if schema < 3 else "loans3 VALUES (?, 104, 1, 1, 20514, 20521, 6, 1, 20, 100, 20520, 2)"
         conn.executemany(f"INSERT INTO {holds}", ((n, 1_000 + n, n % 2 * 3) for n in numbers))
-        conn.executemany("INSERT INTO loans VALUES (?, 104, 1, 1, 20514, 20521, 6, 1, 20, 100, 20520)", ((n,) for n in range(lent, lent + MANY)))
+        conn.executemany(f"INSERT INTO {loans}", ((n,) for n in range(lent, lent + MANY)))
         conn.execute("UPDATE meta SET next_hold = ?, next_loan = ?", (first + MANY, lent + MANY))
     return path
 
 
 def ends_of(path, table):
     """What tells the first row of a table and the last one."""
-    keys = ("kind", "copy_kind") if table == "rules" else (table[:-1],)
+    keys = ("kind", "copy_kind") if table == "rules" else (table.rstrip("3")[:-1],)
     found = rows(path, f"SELECT {', '.join(keys)} FROM {table} ORDER BY 1, 2" if len(keys) > 1 else f"SELECT {keys[0]} FROM {table} ORDER BY 1")
     return [" AND ".join(f"{key} = {number}" for key, number in zip(keys, numbers)) for numbers in (found[0], found[-1])]
 
@@ -425,8 +501,9 @@ def damaged(folder, name):
     is just within its limits is carried over as it is."""
     path, kept = os.path.join(folder, "damaged.db"), with_many_rows(os.path.join(folder, "kept.db"), name)
     # the step from schema 2 on is one and the same, so of a library of schema 1 one column of each of its tables is
-    # enough
-    limits = {"holds": LIMITS["holds"], "rules": {"rate": RATE}, "loans": {"ended": DAY}} if name == HOLDS[0] else {it: LIMITS[it] for it in ("rules", "loans")}
+    # enough; the step from schema 3 on carries no row over
+    limits = {HOLDS[0]: {"holds": LIMITS["holds"], "rules": {"rate": RATE}, "loans": {"ended": DAY}},
+              HOLDS[1]: {it: LIMITS[it] for it in ("rules", "loans")}, HOLDS[2]: {}}[name]
     for text in META:
         shutil.copy(kept, path)
         write(path, text)
@@ -445,8 +522,8 @@ def damaged(folder, name):
                 is_migrated(path, whole(path), f"{column} of {table} is {number}")
     # what is nobody's row is no damaged row: it is carried over, and the audit tells it as before
     shutil.copy(kept, path)
-    last = ends_of(kept, "loans")[1]
-    write(path, f"UPDATE loans SET ended = NULL WHERE {last}")
+    loans = "loans3" if name == HOLDS[2] else "loans"
+    write(path, f"UPDATE {loans} SET ended = NULL WHERE {ends_of(kept, loans)[1]}")
     is_migrated(path, whole(path), "a loan of a copy that is elsewhere")
     check("the audit of it", circ(["audit", path]), ("unsound claims 104", 2))
 
@@ -470,10 +547,11 @@ def damaged_and_mended(folder):
     write(path, f"UPDATE loans SET due = 84006 WHERE {last}", "UPDATE holds SET state = 5 WHERE hold = (SELECT max(hold) FROM holds)")
     leaves_and_says(path, ["migrate", path], "fault 93", whole(path), DAMAGED_ROW)
     # a row of a table that no step looks at stays as it is, and is told by the audit
-    path = with_many_rows(os.path.join(folder, "others.db"), HOLDS[1])
-    write(path, "UPDATE holds2 SET state = 5 WHERE hold = 64", "UPDATE patrons SET owed = -1 WHERE patron = 3")
-    is_migrated(path, whole(path), "a damaged row of another table")
-    check("the audit of it", circ(["audit", path]), ("fault 93", 3))
+    for name in HOLDS[1:]:
+        path = with_many_rows(os.path.join(folder, f"{name}-others.db"), name)
+        write(path, "UPDATE holds2 SET state = 5 WHERE hold = 64", "UPDATE patrons SET owed = -1 WHERE patron = 3")
+        is_migrated(path, whole(path), f"a damaged row of another table, {name}")
+        check("the audit of it", circ(["audit", path]), ("fault 93", 3))
 
 
 # What is done to the tables of a library, what its migration prints, and how many steps it made before.
@@ -481,11 +559,25 @@ OTHER_TABLES = {
     HOLDS[0]: [
         ("DROP TABLE holds", "fault 91", 0), ("CREATE TABLE holds2 (hold INTEGER PRIMARY KEY, patron INTEGER)", "fault 91", 0), ("ALTER TABLE holds ADD COLUMN more INTEGER", "fault 93", 0),
         ("DROP TABLE loans", "fault 91", 1), ("DROP TABLE rules", "fault 91", 1), ("CREATE TABLE loans3 (loan INTEGER PRIMARY KEY, copy INTEGER)", "fault 91", 1),
-        ("ALTER TABLE loans ADD COLUMN more INTEGER", "fault 93", 1), ("CREATE TABLE more (n INTEGER PRIMARY KEY, text TEXT)", DONE, 2), ("DROP INDEX holds_copy", DONE, 2),
+        ("ALTER TABLE loans ADD COLUMN more INTEGER", "fault 93", 1),
+        ("CREATE TABLE more (n INTEGER PRIMARY KEY, text TEXT)", DONE, 3), ("DROP INDEX holds_copy", DONE, 3),
+        ("CREATE TABLE barcodes (sort INTEGER, number INTEGER)", "fault 91", 2),
     ],
     HOLDS[1]: [
         ("DROP TABLE loans", "fault 91", 0), ("DROP TABLE rules", "fault 91", 0), ("CREATE TABLE rules3 (kind INTEGER PRIMARY KEY, copy_kind INTEGER)", "fault 91", 0),
-        ("ALTER TABLE rules ADD COLUMN more INTEGER", "fault 93", 0), ("ALTER TABLE loans ADD COLUMN more INTEGER", "fault 93", 0), ("DROP INDEX loans_copy", DONE, 1),
+        ("ALTER TABLE rules ADD COLUMN more INTEGER", "fault 93", 0),
+        ("ALTER TABLE loans ADD COLUMN more INTEGER", "fault 93", 0), ("DROP INDEX loans_copy", DONE, 2),
+        ("CREATE TABLE notes (line INTEGER PRIMARY KEY, text TEXT)", "fault 91", 1),
+    ],
+    HOLDS[2]: [
+        ("CREATE TABLE barcodes (sort INTEGER, number INTEGER)", "fault 91", 0),
+        ("CREATE TABLE notes (line INTEGER PRIMARY KEY, text TEXT)", "fault 91", 0),
+        ("CREATE VIEW barcodes AS SELECT patron FROM patrons", "fault 91", 0),
+        ("CREATE INDEX barcodes_barcode ON copies (title)", "fault 91", 0),
+        ("CREATE INDEX notes_branch ON lines (day)", "fault 91", 0),
+        ("DROP TABLE copies", "fault 91", 0), ("DROP TABLE lines", "fault 91", 0),
+        ("DROP TABLE holds2", "fault 91", 0), ("DROP TABLE loans3", "fault 91", 0),
+        ("DROP INDEX loans3_copy", DONE, 1), ("CREATE TABLE more (n INTEGER PRIMARY KEY, text TEXT)", DONE, 1),
     ],
 }
 
@@ -508,7 +600,7 @@ def later(folder):
     """A library of a later schema isn't led back."""
     path = os.path.join(folder, "later.db")
     say(path, GROUND)
-    write(path, "UPDATE meta SET schema = 4")
+    write(path, f"UPDATE meta SET schema = {NEWEST + 1}")
     before, kept = whole(path), digest(path)
     leaves_and_says(path, ["migrate", path], "fault 93", before, LATER)
     check("its file", digest(path), kept)
@@ -637,8 +729,11 @@ def a_large_library(folder):
 
 
 def main():
-    of_each = [(work, name) for work in (the_rest_of_the_month, grace_days, damaged, other_tables, killed) for name in HOLDS]
-    for work, *name in [(old_libraries,), (holds_from_a_day_on,), (on_a_terminal,), (other_runs,), (no_library,), (damaged_and_mended,), (later,), (held,), (a_large_library,), *of_each]:
+    of_each = [(work, name) for work in (the_rest_of_the_month, grace_days, labels, damaged, other_tables,
+                                         killed) for name in HOLDS]
+    for work, *name in [(old_libraries,), (absent_indexes,), (holds_from_a_day_on,), (on_a_terminal,),
+                        (other_runs,), (no_library,), (damaged_and_mended,), (later,), (held,), (a_large_library,),
+                        *of_each]:
         with tempfile.TemporaryDirectory() as folder:
             part(work, folder, *name)
 

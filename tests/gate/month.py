@@ -32,6 +32,12 @@ IN_THE_MONTH = {
     ("today", "today"), ("borrower", "patron"), ("borrower", "11"), ("find-patrons", "patron"), ("find-patrons", "end"), ("find-titles", "title"), ("find-titles", "end"),
     ("branches", "branch"), ("branches", "end"), ("closed-days", "day"), ("closed-days", "end"), ("closed-days", "10"), ("kinds", "kind"), ("kinds", "end"), ("rules", "rule"), ("rules", "end"), ("rules", "17"),
     ("missing-copies", "copy"), ("missing-copies", "end"), ("loans", "loan"), ("loans", "end"), ("loans", "13"),
+    ("copy-barcode", "ok"), ("copy-barcode", "13"), ("copy-barcode", "26"), ("patron-barcode", "ok"),
+    ("patron-barcode", "11"), ("patron-barcode", "26"), ("drop-barcode", "ok"), ("drop-barcode", "18"),
+    ("charge", "owed"), ("charge", "10"), ("charge", "11"), ("charge", "21"), ("charge", "60"), ("pay-at", "owed"),
+    ("pay-at", "10"), ("pay-at", "11"), ("pay-at", "60"),
+    ("find-barcode", "copy"), ("find-barcode", "patron"), ("find-barcode", "18"), ("till-at", "till"),
+    ("till-at", "10"),
 }
 
 
@@ -52,10 +58,18 @@ class Asker:
         parts = [word[draw.randrange(min(2, len(word))):][:draw.randint(1, 4)] for word in draw.sample(words, min(2, len(words)))]
         return " ".join(draw.choice((part, part.upper(), folded(part))) for part in parts)
 
+    def noted(self):
+        """The branch and the day of each line that was made at a counter."""
+        return [[str(line["at"]), str(line["day"])] for line in self.library.lines if line["at"] is not None]
+
     def words(self):
         """The next question, and its answer by the rules."""
         it = self.library
-        name = self.rng.choice(QUESTIONS)
+        # barcodes and counters come late in the month, so they are asked for often until they were shown
+        late = [name for name,
+                rows_ in (("find-barcode", it.barcodes),
+                          ("till-at", self.noted())) if rows_ and name not in self.kinds]
+        name = self.rng.choice(late if late and self.rng.random() < 0.5 else QUESTIONS)
         after = [str(self.rng.choice((0, 0, 0, 1, 2, 5, 20, 110, 2**32 - 1)))]
         waited = {hold["title"] for hold in it.holds.values() if hold["state"] == "waiting"}
         owners = {line["patron"] for line in it.lines}
@@ -68,10 +82,12 @@ class Asker:
                  "find-patrons": lambda: [*after, self.sought([row["name"] for row in it.patrons.values()])], "find-titles": lambda: [*after, self.sought(it.titles.values())],
                  "branches": lambda: after, "kinds": lambda: after, "rules": lambda: [self.one_of(it.kinds), *after],
                  "missing-copies": lambda: after, "loans": lambda: [self.one_of(lent if self.rng.random() < 0.8 else it.copies), *after],
+                 "find-barcode": lambda: [self.one_of(it.barcodes.values())],
+                 "till-at": lambda: self.rng.choice(self.noted() or [[self.one_of(it.branches), str(it.today)]]),
                  "closed-days": lambda: [self.one_of(closing if self.rng.random() < 0.8 else it.branches), str(self.rng.choice((0, 0, number(it.today), number(it.today) + 9, 2**32 - 1)))]}
         words = [name, *parts.get(name, lambda: [self.one_of(it.branches), *after])()]
         answer = it.handle("", words)
-        has_rows = re.search(r"^(copy|hold|line|kind|branch|rule|day|loan) [0-9]|^today |^patron .*\n(?:.*\n)*end$|^ +[0-9]|^(?:fines|prices|payments|waivers) .*[1-9]", answer, re.MULTILINE) or (
+        has_rows = re.search(r"^(copy|hold|line|kind|branch|rule|day|loan) [0-9]|^today |^patron [0-9]+$|^patron .*\n(?:.*\n)*end$|^ +[0-9]|^(?:fines|prices|payments|waivers|charges) .*[1-9]", answer, re.MULTILINE) or (
             name in SEARCHES and "\n" in answer)
         self.shown += bool(has_rows)
         self.kinds.update([name] if has_rows else [])

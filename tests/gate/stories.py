@@ -68,7 +68,7 @@ LAWS = {
     "a hold that isn't ready names a copy or a limit": """
         SELECT hold FROM holds2 WHERE state <> 1 AND (copy IS NOT NULL OR limit_day IS NOT NULL)""",
     "a patron doesn't owe what the lines say": """
-        SELECT patron FROM patrons WHERE owed <> (SELECT COALESCE(SUM(CASE WHEN sort < 2 THEN amount ELSE -amount END), 0)
+        SELECT patron FROM patrons WHERE owed <> (SELECT COALESCE(SUM(CASE WHEN sort IN (0, 1, 4) THEN amount ELSE -amount END), 0)
             FROM lines WHERE lines.patron = patrons.patron)""",
 }
 

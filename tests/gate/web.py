@@ -13,6 +13,7 @@ import os
 import pty
 import random
 import re
+import select
 import shlex
 import shutil
 import signal
@@ -31,6 +32,7 @@ from lib import runs
 from lib.checking import check, part, run_script
 from lib.messages import UNWRITTEN, message
 from lib.questions import FORMS, every_question
+from lib.random_histories import has_rows
 from lib.runs import GROUND, HEADER, PROGRAM, circ, digest, rows, whole
 from lib.serving import (
     ANN, ANNS_PAGE, BO, DESK_KEY, FAILED, HOLD, PAGE_OF_ANN, Serving, a_library, answer, by_patron, everything, free_port, hold_with, is_let_go, put_keys, started, told,
@@ -201,15 +203,17 @@ def grace_days(folder, workers):
 
 
 def of_stories():
-    """What the stories of the desk's questions and of corrections ask, each as a list: the step, the key, the words
-    and the answer. Those of corrections go on after those of what is found."""
-    paths = [os.path.join(TOP, "tests", "data", "stories", name) for name in ("asking.txt", "settings_shown.txt", "corrections.txt")]
+    """What the stories of the desk's questions, of corrections and of labels ask, each as a list: the step, the key,
+    the words and the answer. Those of labels go on after those of corrections, and these after those of what is
+    found."""
+    paths = [os.path.join(TOP, "tests", "data", "stories", name) for name in ("asking.txt", "settings_shown.txt",
+        "labels.txt")]
     stories = [story for path in paths for story in stories_of(path) if story.is_plain()]
     return [[(step, key, words, "\n".join(step.answer)) for step in story.steps for key, words in step.requests()] for story in stories]
 
 
 def asking(folder, workers):
-    """The stories of the desk's questions and of corrections by POST /desk, and by `circ send`, those of patrons by
+    """The stories of the desk's questions, corrections and labels by POST /desk, and by `circ send`, those of patrons by
     their routes: each answer, and each row at the end. A patron's key opens the desk's route to none of them, and no
     route of patrons has one."""
     asked, known = of_stories(), Library()
@@ -247,24 +251,33 @@ def asking(folder, workers):
             runs.the_rows_are(path, library)
 
 
-# The parts of each question and of each correction, of the small library.
+# The parts of each question, of each correction, and of what gives barcodes or is at a counter, of the small library.
 EXAMPLES = {
-    **{name: parts for name, *parts in every_question(P="1", C="10", B="1", T="100", K="1", N="2026-03-02", A="0", F="a")},
+    **{name: parts for name,
+       *parts in every_question(P="1", C="10", B="1", T="100", K="1", N="2026-03-02", A="0", F="a", W="1")},
     "card-key": ["1", "newkey000001"], "amend-patron": ["1", "1", "Ann"], "amend-branch": ["1", "5", "Main"], "amend-title": ["100", "Mine"], "amend-copy": ["10", "1", "0"], "rehome": ["10", "2"],
+    "copy-barcode": ["10", "1"], "patron-barcode": ["1", "1"], "drop-barcode": ["1"],
+    "charge": ["1", "5", "1", "Mine"], "pay-at": ["1", "5", "1"],
 }
 
 # What is asked at random, of few copies, holds and loans, which get in each other's way. Letters stand for a patron, a
 # copy, a branch, a title, a hold, a loan, a day to come, a number of days, a number from which a list goes on, today,
-# a kind, a name, a card key, a text to be searched, and weekdays; S for one of the requests that set something.
+# a kind, a name, a card key, a text to be searched, a barcode, and weekdays; S for one of the requests that set
+# something.
 AT_RANDOM = ["check-out P C B", "check-out P C B", "check-out P C B", "check-in C B", "check-in C B", "check-in C B", "check-in C B", "place-hold P T B", "place-hold-from P T B D",
-             "place-hold-from P T B D", "cancel-hold H", "renew L", "unshelve H", "unshelve-cancelled H", "missing C", "begin-day D", "grace 1 1 G", "card-key P Y", "amend-patron P K X", "amend-branch B G X", "amend-title T X", "amend-copy C K 900", "rehome C B", "S"]
+             "place-hold-from P T B D", "cancel-hold H", "renew L", "unshelve H", "unshelve-cancelled H",
+             "missing C", "begin-day D", "grace 1 1 G", "card-key P Y", "amend-patron P K X", "amend-branch B G X",
+             "amend-title T X", "amend-copy C K 900", "rehome C B", "copy-barcode C W", "patron-barcode P W",
+             "drop-barcode W", "charge P 30 B X", "pay-at P 10 B", "S"]
 SET_AT_RANDOM = ["close-day B D", "close-day B D", "open-day B D", "week B M", "kind K 9 9 1000000", "rule K 1 3 2 10 50"]
-ASKED_AT_RANDOM = [*(f"{name} {form}" for name, form in FORMS.items()), "find-patrons 0 F", "copy C", "queue T A", "pulls B A", "closed-days B 0"]
+ASKED_AT_RANDOM = [*(f"{name} {form}" for name, form in FORMS.items()), "find-patrons 0 F", "copy C", "queue T A",
+                   "pulls B A", "closed-days B 0", "find-barcode W", "till-at B N"]
 BEFORE = ["kind 1 9 9 1000000", "kind 2 4 4 1000000", "rule 2 1 9 2 10 50", "acquire 21 200 1 1 1200 'Salt Roads'", "acquire 22 200 1 2 1200 'Salt Roads'", "acquire 31 300 2 2 800 'Night Ferries'"]
 BY_PATRONS = ("place-hold", "place-hold-from", "cancel-hold", "renew")
 NAMES = ["Ann Bell", "Zoë Ærø-Sand", "Åsa Łuć", "Rivers of the North", "7"]
 KEYS = ["cardkey00001", "cardkey00002", "cardkey00003", "newkey000001", "newkey000002"]
 MASKS = ["ooooooc", "coooooc", "ooooooo"]
+BARCODES = ["a1", "A1", "01", "1", "30000100000010"]
 SOUGHT = ["n", "BELL an", "asa", "ŁUĆ sa", "zoe aro", "ri th", "7", "s  r"]
 TURNS = 2_400
 # What holds with a first day have to meet in these turns: what the state of one was before a request, and after it.
@@ -289,8 +302,7 @@ class Turns:
         if late and self.draw.random() < 0.5:
             words = ["overdue", str(self.draw.choice(late)), "0"]
         line = self.library.handle("", words)
-        heads = {"copies": 1, "queue": 1, "account": 1, "overdue": 1, "shelf": 1, "today": -1}.get(words[0], 0)
-        self.shown[words[0]] += line.count("\n") > heads
+        self.shown[words[0]] += has_rows(words, line)
         return words, line
 
     def card_key(self, patron):
@@ -303,7 +315,9 @@ class Turns:
         active = [number for number, hold in library.holds.items() if hold["state"] in ("waiting", "ready")]
         values = {"P": draw.choice("123"), "C": draw.choice(sorted(map(str, library.copies))), "B": draw.choice("12"), "T": draw.choice(("100", "200", "300")),
                   "H": str(draw.choice(active or [1])), "L": str(draw.randint(1, len(library.loans) + 1)), "D": str(library.today + datetime.timedelta(draw.choice((1, 1, 2, 3, 9)))), "G": draw.choice("01239"),
-                  "A": draw.choice(("0", "0", "0", "1", "5", "10", "20")), "N": str(library.today), "K": draw.choice("11229"), "X": draw.choice(NAMES), "Y": draw.choice(KEYS), "F": draw.choice(SOUGHT), "M": draw.choice(MASKS)}
+                  "A": draw.choice(("0", "0", "0", "1", "5", "10", "20")), "N": str(library.today),
+                  "K": draw.choice("11229"), "X": draw.choice(NAMES), "Y": draw.choice(KEYS),
+                  "F": draw.choice(SOUGHT), "M": draw.choice(MASKS), "W": draw.choice(BARCODES)}
         form = draw.choice(forms)
         return [values.get(it, it) for it in (draw.choice(SET_AT_RANDOM) if form == "S" else form).split()]
 
@@ -520,7 +534,7 @@ def hostile_bytes(folder, workers):
         check("writes that failed", sum(is_lost(serving, path, number) for number in range(LOST)), LOST)
     after = whole(path)
     kept = [(2, f"l{number}", *it) for number in range(LOST) for it in LOST_HOLDS[number : number + 1]]
-    check("the holds", ([hold[:4] for hold in after["holds2"]], after["meta"]), ([(1, 2, 100, 1), (2, 2, 200, 1), (3, 2, 300, 2)], [(1, 3, 20514, 1, 4, 1)]))
+    check("the holds", ([hold[:4] for hold in after["holds2"]], after["meta"]), ([(1, 2, 100, 1), (2, 2, 200, 1), (3, 2, 300, 2)], [(1, 4, 20514, 1, 4, 1)]))
     check("what is kept of them", [it for it in after["kept"] if it not in before["kept"]], sorted([(2, "h1", "place-hold 2 100 1", "hold 1"), *kept]))
     check("all else stays", {**after, "holds2": [], "kept": before["kept"], "meta": before["meta"]}, before)
 
@@ -655,13 +669,21 @@ def a_damaged_patron(folder, workers):
 
 
 def a_damaged_copy(folder, workers):
-    """The request that meets a fault of the desk is told it, each later one that the hall is closed; pages stay, and a
-    line tells the fault."""
+    """A question that meets a damaged row is told so, and the desk goes on. A command that meets one is told so too,
+    and each later one that the hall is closed; pages stay, and a line tells the fault."""
     path = a_library(folder, "copy.db")
     runs.write(path, "UPDATE copies SET condition = 3 WHERE copy = 20")
     before = whole(path)
     clerk = lambda key: {"Desk-Key": DESK_KEY, "Request-Key": key}
     bos_page = b'{"reply":"patron 2 owed 0 name Bo Carr"}'
+    asked = [
+        ("POST", "/desk", clerk("q1"), b'["copy","20"]', 503, b'{"fault":93}'),
+        ("POST", "/desk", clerk("q2"), b'["today"]', 200, b'{"reply":"today 2026-03-02"}'),
+        ("POST", "/desk", clerk("q3"), b'["copies","200","0"]', 503, b'{"fault":93}'),
+        ("POST", "/desk", clerk("q4"), b'["check-out","1","99","1"]', 409, b'{"refusal":13}'),
+        ("POST", "/patrons/2/holds", {**BO, "Request-Key": "q5"}, b'{"branch":1,"title":999}', 409, b'{"refusal":12}'),
+        ("GET", "/patrons/2", BO, None, 200, bos_page),
+    ] * 2
     first = ("POST", "/desk", clerk("f1"), b'["check-out","1","20","2"]', 503, b'{"fault":93}')
     later = [
         ("POST", "/desk", clerk("f1"), b'["check-out","1","20","2"]', 503, b'{"fault":92}'),
@@ -674,9 +696,9 @@ def a_damaged_copy(folder, workers):
         ("POST", "/desk", {**clerk("f6"), "Desk-Key": "deskkey00002"}, b'["check-out","1","10","1"]', 403, b'{"refusal":81}'),
         ("POST", "/desk", clerk("f7"), b'["check-out","1"]', 400, b'{"status":400}'),
     ] * 3
-    with Serving(path, 2 + len(later), "fault 93\n", 3, workers=workers) as serving:
-        for asked in [("GET", "/patrons/1", ANN, None, 200, ANNS_PAGE), first, *later]:
-            serving.answers(*asked)
+    with Serving(path, 2 + len(asked + later), "fault 93\n", 3, workers=workers) as serving:
+        for it in [("GET", "/patrons/1", ANN, None, 200, ANNS_PAGE), *asked, first, *later]:
+            serving.answers(*it)
     check("the rows stay", whole(path), before)
 
 
@@ -803,6 +825,8 @@ def on_a_terminal(folder):
     try:
         run, port, first = started(lambda port: ["serve", path, str(port), "1", "1", DESK_KEY], stderr=theirs)
         shown = os.read(ours, 1000).decode()
+        while not shown.endswith("\n") and select.select([ours], [], [], 10)[0]:
+            shown += os.read(ours, 1000).decode()
         check("the first line", first, f"listening on {port}\n")
         # what comes before it tells of a port that another process took
         check("what a terminal shows at the end", shown[shown.rfind("circ: "):], f"circ: {path}: the library is being opened, and the pages of its patrons are made\r\n")

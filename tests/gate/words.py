@@ -2,15 +2,16 @@
 """Compares what documents say of the words with the program's own tables, as its source has them.
 
     tests/gate/words.py            compares
-    tests/gate/words.py --write    writes the copies of the table of commands anew first: in the manual page and the desk's page
+    tests/gate/words.py --write    writes what is copied anew first: the table of commands in the manual page and the
+                                   desk's page, and how many edits there are
 
 The table of commands (`crates/terms/src/form.rt`): each command and its parts stand so in the manual page, its name in
 the completion for bash and in the table of the rules. The numbers of refusals and faults
 (`crates/terms/src/refusal.rt`, `fault.rt`): what each means stands in one way in the program's messages
 (`crates/messages/src/meanings.rt`), the manual page and the rules. The runs of the usage are those of the manual page,
 and the newest version of CHANGES.md and its schema are the program's. Each edit that `docs/WRONG-BODIES.md` names is
-there, in the crate and the function under which it stands, and each field of the headline has its item; its table of
-wrong bodies by chance adds up. Each name in backquotes that only code can have (with an underscore, or capitals
+there, in the crate and the function under which it stands, it says how many there are in all, and each field of the
+headline has its item; its table of wrong bodies by chance adds up. Each name in backquotes that only code can have (with an underscore, or capitals
 within) in the documents of NAMING stands in a source, or is that of a file. The table of the files that the headline's
 words stand in (`docs/PROOFS.md`) is the one that `tests/tools/headline_files` makes, and so is that of the files that
 make it about the requests and the database. Each link of a document within the repository leads to a file that is
@@ -22,6 +23,7 @@ import re
 import subprocess
 import sys
 from difflib import unified_diff
+from glob import glob
 
 from room import TOP
 from lib.checking import check, none, run_script
@@ -29,6 +31,7 @@ from lib.messages import SCHEMA, VERSION, of_manual, read
 from lib.program import program
 from reference.outer_forms import WORDS
 
+TOLD_EDITS = r"\bthe (\d+) edits in the crates'"
 NAMING = ("README.md", "docs/PROOFS.md", "docs/WRONG-BODIES.md", "docs/GATE.md", "docs/CHANGING.md", "docs/TESTS.md", "docs/RULES.md", "docs/ARCHITECTURE.md", "docs/CONTRACTS.md", "docs/DECISIONS.md")
 
 
@@ -61,9 +64,10 @@ def heads(manual, table):
 
 
 def write(table):
-    """Writes the copies of the table of commands."""
+    """Writes the copies of the table of commands, and the number of edits."""
     put("pages/commands.js", r"^export const COMMANDS = \{\n(.*?)^\};", "".join(f'  "{name}": [{", ".join(f"{chr(34)}{it}{chr(34)}" for it in parts)}],\n' for name, parts in table.items()))
     put("docs/circ.1", r"(^\.Sh COMMANDS.*?)^\.Sh FILES", heads(read("docs/circ.1"), table))
+    put("docs/WRONG-BODIES.md", TOLD_EDITS, str(edits()))
 
 
 def completed(*words):
@@ -87,6 +91,11 @@ def meanings():
 def rules():
     """What the page of rules says that each number means."""
     return {int(number): text for number, text in re.findall(r"^\| (\d+) \| ([^|]*) \|", read("docs/RULES.md"), re.M)}
+
+
+def edits():
+    """How many edits the crates have."""
+    return len(glob(f"{TOP}/crates/*/must-fail/*.edit"))
 
 
 def wrong_bodies():
@@ -191,6 +200,7 @@ def main():
     version = re.search(r'VERSION: &str = "([^"]*)"', read("crates/messages/src/usage.rt")).group(1)
     schema = re.search(r"SCHEMA: u32 = (\d+)", read("crates/terms/src/limits.rt")).group(1)
     check("the newest version and its schema", (VERSION, SCHEMA), (version, schema))
+    check("how many edits there are", re.findall(TOLD_EDITS, read("docs/WRONG-BODIES.md")), [str(edits())])
     bodies = list(wrong_bodies())
     check(f"{len(bodies)} edits in docs/WRONG-BODIES.md are enough", len(bodies) >= 150, True)
     check("the edits that docs/WRONG-BODIES.md names, each with its function", [it for it in bodies if not is_refused_in(*it)], [])

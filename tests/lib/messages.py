@@ -10,7 +10,9 @@ import stat
 import tempfile
 from contextlib import closing, contextmanager
 
-from reference.outer_forms import WORDS, is_card_key, is_day, is_key, is_mask, is_name, is_number, read_keys
+from reference.outer_forms import (
+    WORDS, is_barcode, is_card_key, is_day, is_key, is_mask, is_name, is_number, read_keys,
+)
 from room import TOP
 
 SAYINGS = {
@@ -21,7 +23,20 @@ SAYINGS = {
     "unsound claims ": "two or more claims are made on the copy with this number, which can only be in one place",
     "unsound binding ": "the hold with this number is not bound to its copy as its state requires",
     "unsound balance ": "the patron with this number doesn't owe the charges less payments and waivers",
-    "unsound numbers ": "this table has a row with this number, though only libraries of older schemas have rows there: restore a backup, or take its rows out with sqlite3",
+    "unsound reference barcodes ": (
+        "the patron or copy with this number is missing, or has the barcode of another: restore a backup"
+    ),
+    "unsound reference ": (
+        "a row of this table, whose key ends with this number, names a row that is missing: restore a backup"
+    ),
+    **dict.fromkeys(
+        ("unsound numbers rules ", "unsound numbers loans ", "unsound numbers holds "),
+        "this table has a row with this number, though only libraries of older schemas have rows there: restore a "
+        "backup, or take its rows out with sqlite3",
+    ),
+    "unsound numbers ": (
+        "the row of this table with this number is missing, or there though the number was not given: restore a backup"
+    ),
 }
 BAD = "the row is not copy,title,text,kind,home,price,end, or no row may follow"
 OLDER = "the library has an older schema: make a backup first, then run circ migrate FILE"
@@ -74,6 +89,11 @@ USAGES, COMMANDS, MEANINGS = of_manual(read("docs/circ.1"))
 VERSION, SCHEMA = re.search(r"^## (\S+), schema (\d+)$", read("CHANGES.md"), re.M).groups()
 
 
+def told_refusal(number):
+    """A refusal with its meaning, as the tools tell it."""
+    return f"refused {number}: {MEANINGS[number]}" if number in MEANINGS else f"refused {number}"
+
+
 def form(name):
     return " ".join([name, *(f"<{part}>" for part in COMMANDS[name])])
 
@@ -84,6 +104,7 @@ WANTED = {
     is_day: "a day from 2000-01-01 to 2199-12-31, such as 2026-03-02",
     is_mask: "seven letters, Monday to Sunday: o for open, c for closed",
     is_card_key: "8 to 32 ASCII letters and digits",
+    is_barcode: "1 to 24 ASCII letters and digits",
     is_name: "1 to 120 bytes, with no control character and no space at either end",
 }
 AMOUNTS = ["debt", "rate", "cap", "price", "amount"]
@@ -285,7 +306,7 @@ def message(words, out, held=None, made=False, closed=None):
     line = ([it for it in out.split("\n")[:-1] if is_telling(it)] or [""])[-1]
     if line == "words not understood" or out == '{"status":400}\n':
         return (said + usage(words)).encode()
-    sayings = [BAD] if line.endswith(" bad") else [it for begin, it in SAYINGS.items() if line.startswith(begin)]
+    sayings = [BAD] if line.endswith(" bad") else [it for begin, it in SAYINGS.items() if line.startswith(begin)][:1]
     numbers = re.findall(r"\d+", line)
     if sayings:
         said += f"circ: {sayings[0]}\n"

@@ -4,10 +4,12 @@ import datetime
 import re
 import sys
 
-from reference.desk_rules import EPOCH, QUESTIONS, Library, number
+from reference.desk_rules import ENDS_WITH_TEXT, EPOCH, QUESTIONS, Library, number
 
 REQUESTS = 25
 QUESTIONED = 2  # in a history with questions one comes after each second request
+# Questions that are shown something wherever they aren't refused.
+ALWAYS_SHOWN = ("copy", "till", "today", "borrower", "find-barcode", "till-at")
 # The small library of the definitions' worked examples.
 FOUNDING = [
     ["begin-day", "2026-03-02"], ["branch", "1", "5", "Main"], ["branch", "2", "3", "Harbour"], ["week", "1", "ooooooc"], ["week", "2", "coooooc"],
@@ -31,6 +33,8 @@ def named(name):
 def as_term(words):
     """A command as the definitions write it: a variant, and its parts. A question is one of the command `Ask`."""
     name, parts = words[0], [word if word.isdecimal() else text_of(word) for word in words[1:]]
+    if name in ENDS_WITH_TEXT:
+        parts[-1] = text_of(words[-1])
     for at, word in enumerate(words[1:]):
         if re.fullmatch(r"\d{4}-\d{2}-\d{2}", word):
             parts[at] = str((datetime.date.fromisoformat(word) - EPOCH).days)
@@ -73,6 +77,25 @@ class Clerk:
             return ["begin-day", str(loan["due"] + datetime.timedelta(self.rng.choice((1, 2, 3, 4, 6))))]
         return ["missing", str(loan["copy"])] if self.rng.random() < 0.2 else ["check-in", str(loan["copy"]), self.one(1, 2)]
 
+    def barcode(self):
+        """A barcode, mostly one that something has. Case counts, and leading zeros."""
+        there = sorted(self.library.barcodes.values())
+        return self.one(*(there if there and self.rng.random() < 0.6 else ("a1", "A1", "01", "1", "30000100000010")))
+
+    def label_or_charge(self):
+        """A request about a barcode, or one that is made at a counter."""
+        one, barcode, library = self.one, self.barcode(), self.library
+        owing = [it for it in library.patrons if library.owed(it)] or [1]
+        there = sorted(library.barcodes.values()) or [barcode]
+        return self.rng.choice([
+            ["copy-barcode", one(10, 11, 20, 99), barcode], ["patron-barcode", one(1, 2, 3, 9), barcode],
+            ["drop-barcode", one(barcode, *there)],
+            ["charge", one(1, 2, 3), one(0, 30, 250, 600), one(1, 2), one("Photocopies", "7")],
+            ["charge", one(1, 2, 9), one(30, 1_000_001), one(1, 9), "Lost card"],
+            ["pay-at", one(*owing), one(10, 10, 30, 600), one(1, 2)], ["pay-at", one(*owing), "10", "1"],
+            ["pay-at", one(1, 9), one(0, 10), one(1, 9)],
+        ])
+
     def question(self):
         """A question, which mostly is shown rows."""
         late = [branch for branch in (1, 2) if self.library.overdue_rows(branch)]
@@ -100,6 +123,7 @@ class Clerk:
             ["today"], ["borrower", patron], ["find-patrons", after, self.rng.choice(("n", "bell an", "ÁNN", "R c", "ozil", "ann-bell"))], ["find-titles", after, self.rng.choice(("R", "s  r", "NoRth", "ŔÓÀD"))],
             ["branches", one(0, 0, 1, 2)], ["closed-days", branch, self.after_day()], ["kinds", one(0, 0, 1, 2)], ["rules", one(1, 1, 2, 9), one(0, 0, 1, 2)],
             ["missing-copies", after], ["loans", one(10, 10, 11, 12, 20, 99), one(0, 0, 1, 2)],
+            ["loans", one(10, 11), "0"], ["find-barcode", self.barcode()], ["till-at", branch, self.day(0, 0, -1)],
         ])
 
     def request(self):
@@ -107,6 +131,8 @@ class Clerk:
         ends = self.end_of_a_loan() if self.rng.random() < 0.3 else None
         if ends:
             return ends
+        if self.rng.random() < 0.17:
+            return self.label_or_charge()
         patron, title, branch, copy = one(1, 2, 3), one(100, 100, 100, 200, 300), one(1, 1, 2), one(10, 11, 10, 11, 20, 30)
         hold, loan, amount = self.among(self.library.holds), self.among(self.library.loans), one(10, 30, 2500)
         often = [
@@ -118,7 +144,7 @@ class Clerk:
             ["waive", patron, amount], ["close-day", branch, day(1, 5, 6, 7)], ["open-day", branch, day(1, 5, 6, 7)], ["kind", "1", one(2, 5), one(1, 3, 5), "500"],
             ["rule", "1", one(1, 2), one(3, 6), one(0, 2), "20", "100"], ["grace", "1", one(1, 1, 2, 3), one(1, 2, 3, 366)], ["grace", "1", "1", one(0, 1, 2)], ["week", branch, self.rng.choice(["ooooooc", "coooooc", "ooooooo", "ccccccc"])],
             ["branch", branch, one(3, 5), "Main"], ["patron", patron, "1", "cardkey00001", "Ann Bell"], ["kind", "2", one(1, 2), one(1, 2), one(0, 500)], ["rule", "2", one(1, 2), one(3, 9), "1", "10", "50"],
-            ["card-key", one(1, 2, 9), one("cardkey00001", "newkey000001")], ["amend-patron", patron, one(1, 2, 2, 100), one("Ann Bell", "Ann Ozil")], ["amend-branch", branch, one(0, 3, 7, 61), one("Main", "Hall")],
+            ["card-key", one(1, 2, 9), one("cardkey00001", "newkey000001")], ["amend-patron", patron, one(1, 2, 2, 100), one("Ann Bell", "Ann Ozil")], ["amend-patron", patron, "1", "Bo Ozil"], ["amend-branch", branch, one(0, 3, 7, 61), one("Main", "Hall")],
             ["amend-title", title, one("Rivers of the North", "Salt Rivers")], ["amend-copy", copy, one(1, 2, 2, 0), one(900, 2500)], ["rehome", copy, one(1, 2)], ["rehome", copy, one(1, 2)], ["acquire", one(10, 12), "100", "1", "1", "2500", "Rivers of the North"],
         ]
         return self.rng.choice(often if self.rng.random() < 0.6 else seldom)
@@ -147,10 +173,10 @@ def lived(rng, has_questions):
 
 
 def has_rows(words, answer):
-    """Whether a question is shown a row: a copy, sums, a day or a borrower, or a list with more than its head and its
-    end."""
+    """Whether a question is shown a row: a copy, sums, a day, a borrower or what has a barcode, or a list with more
+    than its head and its end."""
     heads = {"copies": 1, "queue": 1, "account": 1, "overdue": 1, "shelf": 1}.get(words[0], 0)
-    return not answer.startswith("refused") and (words[0] in ("copy", "till", "today", "borrower") or answer.count("\n") > heads)
+    return not answer.startswith("refused") and (words[0] in ALWAYS_SHOWN or answer.count("\n") > heads)
 
 
 def shown_in(asked):

@@ -17,6 +17,9 @@ from room import TOP
 
 CIRC = os.path.join(TOP, "circ")
 PROGRAM = program()
+LONGEST_RUN = 600  # seconds, on a loaded machine with a slow disk
+# A place in memory for libraries to which much is sent, so that no test waits for a disk; else that of other files.
+IN_MEMORY = "/dev/shm" if os.access("/dev/shm", os.W_OK) else None
 
 # A key, the words, and the line that answers them.
 GROUND = [
@@ -41,7 +44,7 @@ GROUND = [
 def circ(words, **how):
     """The line and the status of one run, which says on standard error what the line means."""
     made = makes_library(words)
-    run = subprocess.run([CIRC, *words], capture_output=True, timeout=120, **how)
+    run = subprocess.run([CIRC, *words], capture_output=True, timeout=LONGEST_RUN, **how)
     line = run.stdout.decode()
     check(f"standard error of {words}", run.stderr, message(words, line, made=made))
     check(f"one line of {words}", (line.count("\n"), line.endswith("\n")), (1, True))
@@ -95,14 +98,14 @@ def answers(path, key, words):
     """What one run prints, of any number of lines, and its status."""
     run_words = ["file", path, key, *words]
     made = makes_library(run_words)
-    run = subprocess.run([CIRC, *run_words], capture_output=True, timeout=120)
+    run = subprocess.run([CIRC, *run_words], capture_output=True, timeout=LONGEST_RUN)
     check(f"standard error of {key} {words}", run.stderr, message(run_words, run.stdout.decode(), made=made))
     return run.stdout.decode(), run.returncode
 
 
 def report(path, *words):
     """What a report prints, and its status."""
-    run = subprocess.run([CIRC, "report", path, *words], capture_output=True, timeout=120)
+    run = subprocess.run([CIRC, "report", path, *words], capture_output=True, timeout=LONGEST_RUN)
     check(f"standard error of {words}", run.stderr, message(["report", path, *words], run.stdout.decode()))
     return run.stdout.decode(), run.returncode
 
@@ -163,7 +166,7 @@ def take_in(path, copies):
     """What taking in a copies file prints, and its status."""
     words = ["import", path, copies]
     made = makes_library(words)
-    run = subprocess.run([CIRC, *words], capture_output=True, timeout=120)
+    run = subprocess.run([CIRC, *words], capture_output=True, timeout=LONGEST_RUN)
     check("standard error of a copies file", run.stderr, message(words, run.stdout.decode(), made=made))
     return run.stdout.decode(), run.returncode
 
@@ -189,7 +192,7 @@ def type_page(room, page, least):
                 file.write(answer)
             continue
         check(f"the command of {words}", command, "./circ")
-        run = subprocess.run([CIRC, *words], capture_output=True, timeout=120, cwd=room)
+        run = subprocess.run([CIRC, *words], capture_output=True, timeout=LONGEST_RUN, cwd=room)
         check(f"{words}", (run.stdout.decode(), run.returncode), (answer, status_of(answer.partition("\n")[0])))
 
 

@@ -1,6 +1,7 @@
 """A program that serves the web, what it is asked, and a library for it: what the tests of the web have in common."""
 
 import atexit
+import functools
 import http.client
 import json
 import os
@@ -8,11 +9,12 @@ import random
 import re
 import socket
 import subprocess
+import tempfile
 import time
 
 from lib.checking import check, need
 from lib.messages import makes_library, message
-from lib.runs import GROUND, PROGRAM, say
+from lib.runs import GROUND, IN_MEMORY, PROGRAM, say
 from reference.outer_forms import read_keys
 
 DESK_KEY = "deskkey00001"
@@ -199,10 +201,24 @@ def by_patron(patron, card_key, key, words):
     return "POST", "/desk", fields, json.dumps(words).encode()
 
 
+@functools.cache
+def ground():
+    """The bytes of the small library, which the program makes once for a script."""
+    with tempfile.TemporaryDirectory(dir=IN_MEMORY) as folder:
+        path = os.path.join(folder, "ground.db")
+        say(path, GROUND)
+        # a log with less has no page
+        check("the log of the small library", os.path.exists(f"{path}-wal") and os.path.getsize(f"{path}-wal") >= 512,
+              False)
+        with open(path, "rb") as file:
+            return file.read()
+
+
 def a_library(folder, name):
     """The small library that all begin with."""
     path = os.path.join(folder, name)
-    say(path, GROUND)
+    with open(path, "wb") as file:
+        file.write(ground())
     return path
 
 

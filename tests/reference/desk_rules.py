@@ -17,7 +17,8 @@ MOST_LOOKED_AT = 5_000  # rows in one search
 # What only asks: it looks at no key and keeps none. All but the page are the desk's alone.
 SEARCHES = ("find-patrons", "find-titles")
 SETTINGS = ("branches", "closed-days", "kinds", "rules")
-QUESTIONS = ("copy", "copies", "queue", "account", "debts", "overdue", "shelf", "pulls", "transits", "till", "today", "borrower", *SEARCHES, *SETTINGS, "missing-copies", "loans")
+QUESTIONS = ("copy", "copies", "queue", "account", "debts", "overdue", "shelf", "pulls", "transits", "till", "today",
+             "borrower", *SEARCHES, *SETTINGS, "missing-copies", "loans", "find-barcode", "till-at")
 ONLY_ASK = ("page", *QUESTIONS)
 
 # What a patron may send, and of it what names the patron, who may only be the one who asks.
@@ -27,8 +28,16 @@ NAMES_A_PATRON = PATRONS_COMMANDS[:3]
 # What corrects rows that are there.
 CORRECTIONS = ("card-key", "amend-patron", "amend-branch", "amend-title", "amend-copy", "rehome")
 
-# Whose last word is a name, a text or a card key, also where it has digits alone.
-ENDS_WITH_TEXT = ("branch", "patron", "acquire", "card-key", "amend-patron", "amend-branch", "amend-title", *SEARCHES)
+# What gives things their barcodes, and takes them away.
+LABELS = ("copy-barcode", "patron-barcode", "drop-barcode")
+
+# Whose last word is a name, a text, a card key or a barcode, also where it has digits alone.
+ENDS_WITH_TEXT = ("branch", "patron", "acquire", "card-key", "amend-patron", "amend-branch", "amend-title", *LABELS,
+                  "charge", *SEARCHES, "find-barcode")
+
+# The sorts of lines as they are numbered, each with its sign in what is owed.
+SORTS = {"fine": 1, "price": 1, "payment": -1, "waiver": -1, "charge": 1}
+MOST_CHARGED = 1_000_000  # cents, in one charge
 
 
 def number(day):
@@ -85,6 +94,7 @@ class Library:
         self.branches, self.closed, self.kinds, self.rules = {}, {}, {}, {}
         self.patrons, self.titles, self.copies = {}, {}, {}
         self.loans, self.holds, self.transits, self.lines = {}, {}, {}, []
+        self.barcodes = {}  # by the sort of the thing and its number
         self.kept = {}  # by caller and key
 
     # ---- days
@@ -125,12 +135,13 @@ class Library:
         return [n for n, loan in sorted(self.loans.items()) if loan["patron"] == patron and loan["ended"] is None]
 
     def owed(self, patron):
-        sign = {"fine": 1, "price": 1, "payment": -1, "waiver": -1}
-        return sum(sign[line["sort"]] * line["amount"] for line in self.lines if line["patron"] == patron)
+        return sum(SORTS[line["sort"]] * line["amount"] for line in self.lines if line["patron"] == patron)
 
-    def add_line(self, patron, sort, amount, loan=None):
+    def add_line(self, patron, sort, amount, loan=None, at=None, text=None):
+        """A line of an account; of one that was made at a counter the branch is noted and, of a charge, the text."""
         if amount:
-            self.lines.append({"patron": patron, "day": self.today, "sort": sort, "amount": amount, "loan": loan})
+            self.lines.append({"patron": patron, "day": self.today, "sort": sort, "amount": amount, "loan": loan,
+                               "at": at, "text": text})
 
     # ---- movements
 
@@ -294,6 +305,31 @@ class Library:
         row["home"] = branch
         return "ok"
 
+    # ---- barcodes
+
+    def labelled(self, barcode):
+        """The sort and the number of what has this barcode; None where nothing has."""
+        return next((thing for thing, it in self.barcodes.items() if it == barcode), None)
+
+    def give_barcode(self, thing, barcode):
+        refuse(26, self.labelled(barcode) not in (None, thing))
+        self.barcodes[thing] = barcode
+        return "ok"
+
+    def do_copy_barcode(self, copy, barcode):
+        refuse(13, copy not in self.copies)
+        return self.give_barcode(("copy", copy), barcode)
+
+    def do_patron_barcode(self, patron, barcode):
+        refuse(11, patron not in self.patrons)
+        return self.give_barcode(("patron", patron), barcode)
+
+    def do_drop_barcode(self, barcode):
+        thing = self.labelled(barcode)
+        refuse(18, thing is None)
+        del self.barcodes[thing]
+        return "ok"
+
     # ---- loans and holds
 
     def do_check_out(self, patron, copy, branch):
@@ -429,6 +465,21 @@ class Library:
     def do_waive(self, patron, amount):
         return self.settle(patron, amount, "waiver")
 
+    def do_charge(self, patron, amount, branch, text):
+        refuse(21, amount > MOST_CHARGED)
+        refuse(11, patron not in self.patrons)
+        refuse(10, branch not in self.branches)
+        refuse(60, amount == 0)
+        self.add_line(patron, "charge", amount, at=branch, text=text)
+        return f"owed {self.owed(patron)}"
+
+    def do_pay_at(self, patron, amount, branch):
+        refuse(11, patron not in self.patrons)
+        refuse(10, branch not in self.branches)
+        refuse(60, not 0 < amount <= self.owed(patron))
+        self.add_line(patron, "payment", amount, at=branch)
+        return f"owed {self.owed(patron)}"
+
     def do_page(self, patron):
         refuse(11, patron not in self.patrons)
         lines = [self.patron_line(patron)]
@@ -478,7 +529,13 @@ class Library:
         refuse(13, copy not in self.copies)
         row, (place, patron) = self.copies[copy], self.where(copy)
         whose = "" if patron is None else f" patron {patron} {self.patrons[patron]['name']}"
-        return f"copy {copy} home {row['home']} kind {row['kind']} price {row['price']} {self.title_words(row['title'])}\n{place}{whose}"
+        columns = " ".join(f"{it} {row[it]}" for it in ("home", "kind", "price"))
+        first = f"copy {copy} {columns} {self.title_words(row['title'])}"
+        return f"{first}\n{place}{whose}{self.barcode_line('copy', copy)}"
+
+    def barcode_line(self, sort, number_):
+        """The line of its own that tells a thing's barcode, where it has one."""
+        return f"\nbarcode {self.barcodes[sort, number_]}" if (sort, number_) in self.barcodes else ""
 
     def do_copies(self, title, after):
         refuse(12, title not in self.titles)
@@ -491,8 +548,10 @@ class Library:
         return self.listed([self.title_words(title)], rows, after)
 
     def account_words(self, line):
-        """A line of an account; a charge tells the loan and the title that it is for."""
+        """A line of an account. A fine or a price tells the loan and the title, what was made at a counter where."""
         words = f"{line['day']} {line['sort']} {line['amount']}"
+        if line["at"] is not None:
+            return f"{words} at {line['at']}" + ("" if line["text"] is None else f" for {line['text']}")
         if line["loan"] is None:
             return words
         return f"{words} loan {line['loan']} {self.title_words(self.copies[self.loans[line['loan']]['copy']]['title'])}"
@@ -531,12 +590,22 @@ class Library:
     def do_till(self, day):
         return self.till(datetime.date.fromisoformat(day)).removesuffix("\n")
 
+    def do_till_at(self, branch, day):
+        refuse(10, branch not in self.branches)
+        sums = self.sums(datetime.date.fromisoformat(day), ("payment", "charge"), lambda line: line["at"] == branch)
+        return f"till {day} at {branch}\n{sums}".removesuffix("\n")
+
+    def do_find_barcode(self, barcode):
+        thing = self.labelled(barcode)
+        refuse(18, thing is None)
+        return f"{thing[0]} {thing[1]}"
+
     def do_today(self):
         return f"today {self.today}"
 
     def do_borrower(self, patron):
         refuse(11, patron not in self.patrons)
-        return f"{self.patron_line(patron)}\nkind {self.patrons[patron]['kind']}"
+        return f"{self.patron_line(patron)}\nkind {self.patrons[patron]['kind']}{self.barcode_line('patron', patron)}"
 
     def searched(self, names, shown, after, text):
         """A part of a search over rows with names: of those above a number, the least first, it looks at one after
@@ -619,10 +688,15 @@ class Library:
 
     # ---- reports and rows
 
+    def sums(self, day, sorts, counts=lambda line: True):
+        """A row for each of these sorts: the sum of a day's lines that count."""
+        lines = [line for line in self.lines if line["day"] == day and counts(line)]
+        amount = lambda sort: sum(line["amount"] for line in lines if line["sort"] == sort)
+        return "".join(f"{sort + 's':<9}{amount(sort):>15}\n" for sort in sorts)
+
     def till(self, day):
-        sums = {sort: sum(line["amount"] for line in self.lines if line["day"] == day and line["sort"] == sort)
-                for sort in ("fine", "price", "payment", "waiver")}
-        return f"till {day}\n" + "".join(f"{sort + 's':<9}{amount:>15}\n" for sort, amount in sums.items())
+        has_charge = any(line["day"] == day and line["sort"] == "charge" for line in self.lines)
+        return f"till {day}\n" + self.sums(day, [sort for sort in SORTS if sort != "charge" or has_charge])
 
     def overdue_rows(self, branch):
         """The rows of a branch's overdue report, by their loans."""
@@ -646,10 +720,10 @@ class Library:
         """The rows as the file has to hold them, each table in the order of its key."""
         states = ["waiting", "ready", "filled", "cancelled", "expired"]
         conditions = ["present", "missing", "withdrawn"]
-        sorts = ["fine", "price", "payment", "waiver"]
+        sorts, things = list(SORTS), ["patron", "copy"]
         day = lambda d: None if d is None else number(d)
         return {
-            "meta": [(1, 3, number(self.today), len(self.loans) + 1, len(self.holds) + 1, len(self.lines) + 1)],
+            "meta": [(1, 4, number(self.today), len(self.loans) + 1, len(self.holds) + 1, len(self.lines) + 1)],
             "branches": [(n, r["pickup"], r["week"], r["name"]) for n, r in sorted(self.branches.items())],
             "closed_days": [(n, number(d)) for n, days in sorted(self.closed.items()) for d in sorted(days)],
             "kinds": [(n, r["loans"], r["holds"], r["debt"]) for n, r in sorted(self.kinds.items())],
@@ -668,5 +742,7 @@ class Library:
             "transits": [(n, goal, hold) for n, (goal, hold) in sorted(self.transits.items())],
             "lines": [(n, r["patron"], number(r["day"]), sorts.index(r["sort"]), r["amount"], r["loan"])
                       for n, r in enumerate(self.lines, 1)],
+            "barcodes": sorted((things.index(sort), n, barcode) for (sort, n), barcode in self.barcodes.items()),
+            "notes": [(n, r["at"], r["text"]) for n, r in enumerate(self.lines, 1) if r["at"] is not None],
             "kept": [(caller, key, text, reply) for (caller, key), (text, reply) in sorted(self.kept.items())],
         }

@@ -41,6 +41,10 @@ def is_card_key(word):
     return re.fullmatch("[A-Za-z0-9]{8,32}", word) is not None
 
 
+def is_barcode(word):
+    return re.fullmatch("[A-Za-z0-9]{1,24}", word) is not None
+
+
 def is_key(word):
     return re.fullmatch("[A-Za-z0-9-]{1,40}", word) is not None
 
@@ -69,6 +73,9 @@ WORDS = {
     "amend-title": [is_number, is_name],
     "amend-copy": NUMBERS[:3],
     "rehome": NUMBERS[:2],
+    "copy-barcode": [is_number, is_barcode],
+    "patron-barcode": [is_number, is_barcode],
+    "drop-barcode": [is_barcode],
     "check-out": NUMBERS[:3],
     "check-in": NUMBERS[:2],
     "renew": NUMBERS[:1],
@@ -81,6 +88,8 @@ WORDS = {
     "withdraw": NUMBERS[:1],
     "pay": NUMBERS[:2],
     "waive": NUMBERS[:2],
+    "charge": [*NUMBERS[:3], is_name],
+    "pay-at": NUMBERS[:3],
     "page": NUMBERS[:1],
     "copy": NUMBERS[:1],
     "copies": NUMBERS[:2],
@@ -102,6 +111,8 @@ WORDS = {
     "rules": NUMBERS[:2],
     "missing-copies": NUMBERS[:1],
     "loans": NUMBERS[:2],
+    "find-barcode": [is_barcode],
+    "till-at": [is_number, is_day],
 }
 
 
@@ -371,7 +382,7 @@ def read_request(bytes_):
 
 
 # What a clerk of the role `lending` may send.
-LENDING = ("check-out", "check-in", "renew", "page", "copy", "borrower", "today")
+LENDING = ("check-out", "check-in", "renew", "page", "copy", "borrower", "find-barcode", "today")
 
 PHRASES = {200: "OK", 400: "Bad Request", 403: "Forbidden", 404: "Not Found", 405: "Method Not Allowed", 409: "Conflict", 413: "Payload Too Large"}
 

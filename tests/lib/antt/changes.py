@@ -17,7 +17,7 @@ HELD = ("name", "arguments", "function", "number")
 # Days, which aren't taken for counts: a list of as many numbers is too long to be gone through.
 DAYS = ("today", "today_after")
 # Words of which it is the same which argument comes first.
-EVEN = ("bytes_eq", "min", "max")
+EVEN = ("bytes_eq", "same_thing", "min", "max")
 OTHER_WORDS = {"nat_le": "nat_lt", "nat_lt": "nat_le", "is_some": "is_none", "is_none": "is_some", "list_any": "list_all", "list_all": "list_any"}
 # What a change may have to import.
 LIBRARY = {it: "Prelude" for it in ("not", "nat_le", "nat_lt", "is_some", "is_none", "true", "false", "None", "◌&&◌", "◌||◌", "◌+◌", "◌-◌")} | {"list_any": "List", "list_all": "List"}

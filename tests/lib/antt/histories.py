@@ -14,6 +14,7 @@ IMPORTS = """
 use Rattle.std.specs.Prelude.{[], ◌∷◌, true, false, Some, None, codes}
 use Rattle.std.specs.Str.{encode_utf8_all}
 use Rattle.terms.specs.declared.command.Command.TheVariants.{SetCardKey, AmendPatron, AmendBranch, AmendTitle, AmendCopy, Rehome}
+use Rattle.terms.specs.declared.command.Command.TheVariants.{CopyBarcode, PatronBarcode, DropBarcode, Charge, PayAt}
 use Rattle.terms.specs.declared.command.Command.TheVariants.{BeginDay, Branch, Week, CloseDay, OpenDay, Kind, Rule, Grace, Patron, Acquire, CheckOut, CheckIn, Renew}
 use Rattle.terms.specs.declared.command.Command.TheVariants.{PlaceHold, CancelHold, Unshelve, UnshelveCancelled, Missing, Withdraw, Pay, Waive, Ask}
 use Rattle.terms.specs.declared.question.Question.TheVariants as question
@@ -35,7 +36,7 @@ TABLES = {
     "lines": ("lines", ("line",), ("patron", "day", "sort", "amount", "loan")),
 }
 SORTS = {
-    ("copies", "condition"): "Condition Present Missing Withdrawn", ("holds2", "state"): "HoldState Waiting Ready Filled Cancelled Expired", ("lines", "sort"): "Sort Fine Price Payment Waiver",
+    ("copies", "condition"): "Condition Present Missing Withdrawn", ("holds2", "state"): "HoldState Waiting Ready Filled Cancelled Expired", ("lines", "sort"): "Sort Fine Price Payment Waiver Charge",
 }
 OPTIONAL = {("loans3", "ended"), ("holds2", "copy"), ("holds2", "limit_day"), ("holds2", "first_day"), ("transits", "hold"), ("lines", "loan")}
 BRANCHES, KINDS, PATRONS, COPIES, TITLES = (1, 2, 3, 9), (1, 2, 3), (1, 2, 3, 4, 9), (10, 11, 12, 20, 21, 30), (100, 200, 300, 301)
@@ -96,6 +97,7 @@ class History:
             for key in self.keys(name) | set(wanted):
                 yield self.row(picture, field, key), self.wanted(name, keys, columns, key, wanted.get(key))
         yield from self.branches(picture, rows)
+        yield from self.labels(picture, rows)
         yield from self.older(picture)
 
     def keys(self, name):
@@ -134,6 +136,23 @@ class History:
             yield ap(picture.branches, branch), made
             for day in range(number(self.library.today) - 3, number(self.library.today) + 12):
                 yield ap(picture.closed_days, branch, day), (branch, day) in set(rows["closed_days"])
+
+    def labels(self, picture, rows):
+        """Barcodes, and the notes of lines."""
+        none, things = con("Option.None"), {row[:2]: row[2] for row in rows["barcodes"]}
+        for sort, variant, numbers in ((0, "Patron", PATRONS), (1, "Copy", COPIES)):
+            for it in numbers:
+                thing, barcode = con(f"Thing.{variant}", it), things.get((sort, it))
+                row = None if barcode is None else record(("barcode", "thing"), texted(barcode), thing)
+                yield ap(picture.barcodes, thing), none if row is None else con("Option.Some", row)
+        notes = {row[0]: row for row in rows["notes"]}
+        for line in range(len(self.library.lines) + 3):
+            made = none
+            if line in notes:
+                _, branch, text = notes[line]
+                told = none if text is None else con("Option.Some", texted(text))
+                made = con("Option.Some", record(("branch", "line", "text"), branch, line, told))
+            yield ap(picture.notes, line), made
 
     def older(self, picture):
         """The tables of older schemas are empty."""
