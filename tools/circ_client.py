@@ -19,7 +19,10 @@ LONGEST_WAIT = 30  # seconds, for a connection and for each part of an answer
 MOST_CLERKS = 99
 LONGEST_LINE = 58  # bytes of a file of keys, with its newline
 
-Copy = namedtuple("Copy", "copy home kind price title text place loan due patron")
+Copy = namedtuple("Copy", "copy home kind price title text place loan due patron barcode")
+Borrower = namedtuple("Borrower", "patron owed name kind barcode")
+Line = namedtuple("Line", "line day sort amount loan title text branch")
+Till = namedtuple("Till", "day branch fines prices payments waivers charges")
 Page = namedtuple("Page", "patron owed name loans holds")
 Loan = namedtuple("Loan", "loan due renewals title text")
 Hold = namedtuple("Hold", "hold branch state title text")
@@ -140,11 +143,57 @@ def reply_of(status, body):
 
 
 def read_copy(text):
-    """A copy, of the reply to `copy`. Its loan, with the due day and the patron, is None where it isn't on loan."""
-    first, place = text.split("\n")
-    copy, home, kind, price, title, words = re.fullmatch(r"copy (\d+) home (\d+) kind (\d+) price (\d+) title (\d+) (.*)", first).groups()
+    """A copy, of the reply to `copy`. Its loan, with the due day and the patron, is None where it isn't on loan, and so
+    is its barcode where it has none."""
+    first, place, *more = text.split("\n")
+    form = r"copy (\d+) home (\d+) kind (\d+) price (\d+) title (\d+) (.*)"
+    copy, home, kind, price, title, words = re.fullmatch(form, first).groups()
     lent = re.fullmatch(r"loan (\d+) due (\S+) patron (\d+) .*", place)
-    return Copy(int(copy), int(home), int(kind), int(price), int(title), words, place, *((int(lent[1]), lent[2], int(lent[3])) if lent else (None, None, None)))
+    loan = (int(lent[1]), lent[2], int(lent[3])) if lent else (None, None, None)
+    return Copy(int(copy), int(home), int(kind), int(price), int(title), words, place, *loan, barcode_in(more))
+
+
+def read_borrower(text):
+    """A patron, of the reply to `borrower`. The barcode is None where the patron has none."""
+    first, kind, *more = text.split("\n")
+    patron, owed, name = re.fullmatch(r"patron (\d+) owed (\d+) name (.*)", first).groups()
+    return Borrower(int(patron), int(owed), name, int(kind.removeprefix("kind ")), barcode_in(more))
+
+
+def barcode_in(lines):
+    """The barcode that a last line tells; None where there is no such line."""
+    return lines[0].removeprefix("barcode ") if lines else None
+
+
+def read_found(text):
+    """What has a barcode, of the reply to `find-barcode`: "copy" or "patron", and its number."""
+    sort, number = text.split(" ")
+    return sort, int(number)
+
+
+def read_owed(text):
+    """What is owed, of the reply to `charge`, `pay`, `pay-at` or `waive`."""
+    return int(text.removeprefix("owed "))
+
+
+def read_line(text):
+    """A line of an account, of a row of `account`. A fine and a price have their loan and its title, a charge what it
+    is for; a charge, and a payment at a counter, have their branch. What a line hasn't is None."""
+    line, day, sort, amount, more = re.fullmatch(r"line (\d+) (\S+) (\w+) (\d+)(.*)", text).groups()
+    of_loan = re.fullmatch(r" loan (\d+) title (\d+) (.*)", more)
+    at = re.fullmatch(r" at (\d+)(?: for (.*))?", more)
+    loan, title, words = (int(of_loan[1]), int(of_loan[2]), of_loan[3]) if of_loan else (None, None, at and at[2])
+    return Line(int(line), day, sort, int(amount), loan, title, words, at and int(at[1]))
+
+
+def read_till(text):
+    """The sums of a day, of the reply to `till`, or to `till-at`, which has a branch. What isn't shown is None; `till`
+    shows charges where there were some."""
+    first, *rows = text.splitlines()
+    day, branch = re.fullmatch(r"till (\S+)(?: at (\d+))?", first).groups()
+    sums = {name: int(amount) for name, amount in map(str.split, rows)}
+    sorts = ("fines", "prices", "payments", "waivers", "charges")
+    return Till(day, branch and int(branch), *(sums.get(it) for it in sorts))
 
 
 def read_page(text):

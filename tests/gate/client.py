@@ -19,7 +19,10 @@ from lib.serving import DESK_KEY, Serving, a_library, put_keys
 
 sys.path.insert(0, os.path.join(TOP, "tools"))
 
-from circ_client import BadKeys, Copy, Desk, Fault, Hold, Loan, NoAnswer, NoDesk, NotUnderstood, Page, Refused, first_key, read_copy, read_page
+from circ_client import (
+    BadKeys, Borrower, Copy, Desk, Fault, Hold, Line, Loan, NoAnswer, NoDesk, NotUnderstood, Page, Refused, Till,
+    first_key, read_borrower, read_copy, read_found, read_line, read_owed, read_page, read_till,
+)
 
 MANY = 205  # copies of a title, in three parts of a list
 
@@ -53,18 +56,57 @@ def served(folder):
         check("a list with its text last", list(desk.listed("find-patrons", "bell an")), ["patron 1 owed 0 name Ann Bell"])
         check("one without rows", list(desk.listed("debts")), [])
         copy = read_copy(desk.ask("copy", 10))
-        check("a copy", copy, Copy(10, 1, 1, 2500, 100, "Rivers of the North", "loan 1 due 2026-03-09 patron 1 Ann Bell", 1, "2026-03-09", 1))
-        check("one on its shelf", read_copy(desk.ask("copy", 30))[6:], ("shelf 1", None, None, None))
+        check("a copy", copy, Copy(10, 1, 1, 2500, 100, "Rivers of the North",
+                                   "loan 1 due 2026-03-09 patron 1 Ann Bell", 1, "2026-03-09", 1, None))
+        check("one on its shelf", read_copy(desk.ask("copy", 30))[6:], ("shelf 1", None, None, None, None))
         check("a page with a loan", read_page(desk.ask("page", 1)), Page(1, 0, "Ann Bell", [Loan(1, "2026-03-09", 1, 100, "Rivers of the North")], []))
         check("a page with a hold", read_page(desk.ask("page", 2)), Page(2, 0, "Bo Carr", [], [Hold(1, 2, "waiting", 100, "Rivers of the North")]))
         check("card keys", [desk.knows(1, it) for it in ("cardkey00001", "cardkey00002", "short")], [True, False, False])
         check("a patron's request keys are not used up", desk.ask("today"), "today 2026-03-02")
     check("the hold stands once", rows_now(path, "SELECT count(*) FROM holds2"), [(1,)])
     write(path, "UPDATE copies SET price = 2000000 WHERE copy = 20")
-    with Serving(path, 2, after="fault 93\n", status=3) as serving:
+    with Serving(path, 4, after="fault 93\n", status=3) as serving:
         desk = Desk(serving.port, DESK_KEY)
-        check("a fault", raised(lambda: desk.ask("copy", 20)), (Fault, 93))
+        check("a fault that a question met", raised(lambda: desk.ask("copy", 20)), (Fault, 93))
+        check("the desk goes on", desk.ask("today"), "today 2026-03-02")
+        check("a fault that a command met", raised(lambda: desk.ask("check-out", 1, 20, 1)), (Fault, 93))
         check("a closed desk", raised(lambda: desk.ask("copy", 10)), (Fault, 92))
+
+
+def labels_and_charges(folder):
+    """Barcodes, charges and the tills of a day, read."""
+    path = a_library(folder, "charges.db")
+    with Serving(path, 21) as serving:
+        desk = Desk(serving.port, DESK_KEY)
+        check("a patron without a barcode", read_borrower(desk.ask("borrower", 2)), Borrower(2, 0, "Bo Carr", 1, None))
+        check("barcodes", [desk.ask(*it) for it in (("copy-barcode", 10, "30000100000010"),
+                                                    ("patron-barcode", 2, "007"))], ["ok", "ok"])
+        check("what they find", [read_found(desk.ask("find-barcode", it)) for it in ("30000100000010", "007")],
+              [("copy", 10), ("patron", 2)])
+        check("what none finds", raised(lambda: desk.ask("find-barcode", "7")), (Refused, 18))
+        check("one that is taken", raised(lambda: desk.ask("copy-barcode", 11, "007")), (Refused, 26))
+        check("a copy with one", read_copy(desk.ask("copy", 10)),
+              Copy(10, 1, 1, 2500, 100, "Rivers of the North", "shelf 1", None, None, None, "30000100000010"))
+        check("a till without charges", read_till(desk.ask("till", "2026-03-02")),
+              Till("2026-03-02", None, 0, 0, 0, 0, None))
+        check("what is owed", [read_owed(desk.ask(*it)) for it in (("charge", 2, 250, 1, "Photocopies for 5 at 2"),
+                                                                   ("pay-at", 2, 100, 2), ("pay", 2, 40),
+                                                                   ("waive", 2, 10))], [250, 150, 110, 100])
+        check("a patron with one", read_borrower(desk.ask("borrower", 2)), Borrower(2, 100, "Bo Carr", 1, "007"))
+        check("the tills", [read_till(desk.ask(*it)) for it in (("till", "2026-03-02"), ("till-at", 1, "2026-03-02"),
+                                                                ("till-at", 2, "2026-03-02"))], [
+            Till("2026-03-02", None, 0, 0, 140, 10, 250), Till("2026-03-02", 1, None, None, 0, None,
+                                                               250), Till("2026-03-02", 2, None, None, 100, None, 0)])
+        check("a lost copy", [desk.ask(*it) for it in (("check-out", 2, 10, 1), ("begin-day", "2026-03-17"),
+                                                       ("missing", 10))], ["loan 1 due 2026-03-09", "ok", "fine 100 price 2500"])
+        account = [read_line(it) for it in list(desk.listed("account", 2))[1:]]
+        check("the account", account, [
+            Line(1, "2026-03-02", "charge", 250, None, None, "Photocopies for 5 at 2", 1),
+                                       Line(2, "2026-03-02", "payment", 100, None, None, None, 2),
+            Line(3, "2026-03-02", "payment", 40, None, None, None, None),
+                                       Line(4, "2026-03-02", "waiver", 10, None, None, None, None),
+            Line(5, "2026-03-17", "fine", 100, 1, 100, "Rivers of the North", None),
+                                       Line(6, "2026-03-17", "price", 2500, 1, 100, "Rivers of the North", None)])
 
 
 def others(_folder):
@@ -109,7 +151,7 @@ def at_once(folder):
 
 
 def main():
-    for tried in (served, others, keys, at_once):
+    for tried in (served, labels_and_charges, others, keys, at_once):
         with tempfile.TemporaryDirectory() as folder:
             part(tried, folder)
 

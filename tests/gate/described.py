@@ -22,7 +22,7 @@ from lib.serving import ANN, DESK_KEY, Serving, a_library
 from stories import stories_of, story_paths
 
 # what a word of a form in capitals stands for
-VALUES = {"DAY": r"\d{4}-\d\d-\d\d", "MASK": "[oc]{7}", "NAME": ".+", "TEXT": ".+"}
+VALUES = {"DAY": r"\d{4}-\d\d-\d\d", "MASK": "[oc]{7}", "NAME": ".+", "TEXT": ".+", "BARCODE": "[A-Za-z0-9]{1,24}"}
 ALWAYS = {80, 81}  # a key and a caller are checked before a command is
 ENDS = r"end|after \d+"
 MOST_BODY = 65_536
@@ -73,10 +73,13 @@ class Forms:
         if command["reply"] == "list":
             return self.is_list(command, lines)
         if command["reply"] == "report":
-            return lines[0] == f"till {lines[0][5:]}" and all(re.fullmatch(r"[a-z]+ +\d+", it) for it in lines[1:])
-        first, others = self.shown[command["reply"]]
-        # a page has any number of further lines, and the others have one
-        return self.fits(lines[0], first) and all(self.fits(it, others) for it in lines[1:]) and (command["reply"] == "page" or len(lines) == 2)
+            return bool(re.fullmatch(r"till \d{4}-\d\d-\d\d(?: at \d+)?",
+                                     lines[0])) and all(re.fullmatch(r"[a-z]+ +\d+", it) for it in lines[1:])
+        first, others, *last = self.shown[command["reply"]]
+        # a page has any number of further lines, the others have one, and where there is a barcode a third
+        if command["reply"] == "page":
+            return self.fits(lines[0], first) and all(self.fits(it, others) for it in lines[1:])
+        return 2 <= len(lines) <= 3 and all(self.fits(it, forms) for it, forms in zip(lines, [first, others, *last]))
 
 
 def stories():

@@ -20,7 +20,8 @@ from contextlib import contextmanager
 
 from room import TOP
 from lib.checking import check, need, part, run_script
-from lib.runs import PROGRAM, circ, digest, rows, rows_now
+from lib.messages import told_refusal
+from lib.runs import IN_MEMORY, LONGEST_RUN, PROGRAM, circ, digest, rows, rows_now, say
 from lib.serving import DESK_KEY, a_library, everything, started
 
 ENROL = os.path.join(TOP, "tools", "enrol")
@@ -28,7 +29,7 @@ HEADER = "patron,kind,card-key,name\n"
 WRONG_KEY = "deskkey00002"
 CLERKS_KEYS = ["annkey000001", "bokey0000001", "kioskkey0001"]
 ANN, BO, KIOSK = (f"{name} {role} {key}\n" for (name, role), key in zip((("ann", "desk"), ("bo", "desk"), ("kiosk", "lending")), CLERKS_KEYS))
-MANY, SOME = 10_000, 6_000
+MANY, SOME = 2_000, 1_500
 
 # A list, as a spreadsheet may write it, and the patrons that it has.
 TOWN = HEADER + """\
@@ -98,7 +99,7 @@ def enrolled(*words):
     """What a run prints, what it says on standard error, and its status. No card key and no key of a desk is told,
     whatever goes wrong."""
     with begun(*words) as run:
-        out, err = (it.decode() for it in run.communicate(timeout=900))
+        out, err = (it.decode() for it in run.communicate(timeout=LONGEST_RUN))
     check("keys that are told", [it for it in ("cardkey", DESK_KEY, WRONG_KEY, *CLERKS_KEYS) if it in out + err], [])
     return out, err, run.returncode
 
@@ -190,8 +191,45 @@ accepted 4 refused 5
     check("the patron that was there", rows(path, "SELECT name FROM patrons WHERE patron = 1"), [("Ann Bell",)])
 
 
+WITH_BARCODES = HEADER.replace("\n", ",barcode\n")
+LABELLED = WITH_BARCODES + """\
+50,1,cardkey00050,"Bell, Ann",20000000000050
+51,1,cardkey00051,J\u00f3n \u00deor,
+52,1,cardkey00052,Bo Carr,0052
+53,1,cardkey00053,Cy Dunn,a
+"""
+
+
+def with_barcodes(folder):
+    """A list with barcodes gives them to the patrons that have one there. A row whose barcode is refused is told by
+    that request's key; once the barcode is mended the row is accepted, and each barcode was given once."""
+    path, refused, again = a_library(folder,
+                                     "labelled.db"), os.path.join(folder,
+                                                                  "taken.csv"), os.path.join(folder, "taken2.csv")
+    say(path, [("b1", ["copy-barcode", "10", "a"], "ok")])
+    with a_desk(path) as (_, port):
+        told = f"row 4 {told_refusal(26)} (patron-barcode-53)\naccepted 3 refused 1\n"
+        check("a list with barcodes", enrolled(port, DESK_KEY, put(folder, "labelled.csv", LABELLED), refused),
+              (told, "", 2))
+        check("its file", open(refused, encoding="utf-8").read(), WITH_BARCODES + "53,1,cardkey00053,Cy Dunn,a\n")
+        mended = put(folder, "labelled2.csv", LABELLED.replace("Dunn,a", "Dunn,A"))
+        for turn in ("first", "second"):
+            check(f"the mended list, the {turn} time", enrolled(port, DESK_KEY, mended, again),
+                  ("accepted 4 refused 0\n", "", 0))
+        for barcode in (" ", "1-2", "1" * 25, "\u0665", "1 2"):
+            listed = put(folder, "bad.csv", WITH_BARCODES + f"60,1,cardkey00060,Di Eck,{barcode}\n")
+            bad = said(f"{listed}: row 1 is bad: its barcode is not 1 to 24 ASCII letters and digits",
+                       "nothing was sent")
+            check(f"the barcode {barcode!r}", enrolled(port, DESK_KEY, listed, again), ("", bad, 4))
+    check("the barcodes", rows_now(path, "SELECT number, barcode FROM barcodes WHERE sort = 0 ORDER BY number"),
+          [(50, "20000000000050"), (52, "0052"), (53, "A")])
+    keys = rows_now(path, "SELECT key, text FROM kept WHERE key LIKE 'patron-barcode%' ORDER BY key")
+    check("their keys", keys, [(f"patron-barcode-{at}", f"patron-barcode {at} {it}") for at,
+                               it in ((50, "20000000000050"), (52, "0052"), (53, "A"))])
+
+
 ROW = "50,1,cardkey00050,Ann Bell\n"
-NO_HEADER = "its first line is not patron,kind,card-key,name"
+NO_HEADER = "its first line is not patron,kind,card-key,name or patron,kind,card-key,name,barcode"
 NO_NAME = "its name is not 1 to 120 bytes in one line, with no space at either end and no hyphen before it"
 NO_KEY = "its card key is not 8 to 32 ASCII letters and digits"
 WHOLE_LISTS = [
@@ -335,11 +373,13 @@ def others_that_answer(folder):
         told = "row 1 refused 17: unknown kind of patron (patron-50)\naccepted 0 refused 1\n"
         check("a refusal with its meaning", enrolled(port, DESK_KEY, listed, refused), (told, "", 2))
         os.remove(refused)
-        run = subprocess.run([alone, port, DESK_KEY, listed, refused], capture_output=True, text=True, timeout=60, check=False)
+        run = subprocess.run([alone, port, DESK_KEY, listed, refused], capture_output=True, text=True,
+                             timeout=LONGEST_RUN, check=False)
         check("without the manual page", (run.stdout, run.stderr, run.returncode), ("row 1 refused 17 (patron-50)\naccepted 0 refused 1\n", "", 2))
         os.remove(refused)
         with open("/dev/full", "w", encoding="utf-8") as full, begun(port, DESK_KEY, listed, refused, stdout=full) as run:
-            check("a standard output that takes no more", (run.communicate(timeout=60)[1].decode(), run.returncode), (said("standard output can't be written"), 3))
+            check("a standard output that takes no more", (run.communicate(timeout=LONGEST_RUN)[1].decode(),
+                                                           run.returncode), (said("standard output can't be written"), 3))
         check("the refused row is in its file", open(refused, encoding="utf-8").read(), HEADER + ROW)
 
 
@@ -354,7 +394,8 @@ def town(folder, name, count):
 
 def is_enrolled(port, patron):
     """Whether the desk knows a patron."""
-    return subprocess.run([PROGRAM, "send", port, DESK_KEY, "q", "page", str(patron)], capture_output=True, timeout=60, check=False).returncode == 0
+    return subprocess.run([PROGRAM, "send", port, DESK_KEY, "q", "page", str(patron)], capture_output=True,
+                          timeout=LONGEST_RUN, check=False).returncode == 0
 
 
 def wait_for(port, patron, run):
@@ -371,7 +412,7 @@ def each_once(path, people):
 
 
 def killed_in_the_middle(folder):
-    """Ten thousand rows, killed in the middle: the first of them are there, and after the same run again each is there
+    """Many rows, killed in the middle: the first of them are there, and after the same run again each is there
     once."""
     path, (listed, people), refused = a_library(folder, "town.db"), town(folder, "town.csv", MANY), os.path.join(folder, "of_town.csv")
     with a_desk(path) as (_, port):
@@ -395,7 +436,7 @@ def other_stops(folder):
         with begun(port, DESK_KEY, listed, refused) as run:
             wait_for(port, people[SOME // 4][0], run)
             desk.kill()
-            out, err = (it.decode() for it in run.communicate(timeout=60))
+            out, err = (it.decode() for it in run.communicate(timeout=LONGEST_RUN))
         check("the desk is killed", (err, run.returncode), (said(NO_ANSWER.format(port)), 3))
     found = patrons(path)
     check("what was accepted is there", found[: int(out.split()[1])], people[: int(out.split()[1])])
@@ -408,7 +449,7 @@ def other_stops(folder):
             while shown.count(b"\r") < 6:
                 shown += os.read(seen, 4096)
             run.send_signal(signal.SIGINT)
-            out = run.communicate(timeout=60)[0].decode()
+            out = run.communicate(timeout=LONGEST_RUN)[0].decode()
         try:
             while more := os.read(seen, 4096):
                 shown += more
@@ -425,18 +466,19 @@ def other_stops(folder):
 
 
 def main():
-    with tempfile.TemporaryDirectory() as folder:
+    with tempfile.TemporaryDirectory(dir=IN_MEMORY) as folder:
         # one that takes a connection and says nothing is waited for as long as the tool waits, beside the other tests
         listed = put(folder, "waiting.csv", HEADER + ROW)
         with one_who_answers(None) as port, begun(port, DESK_KEY, listed, os.path.join(folder, "of_waiting.csv")) as waiting:
             part(good_lists, folder)
             part(refused_rows, folder)
+            part(with_barcodes, folder)
             part(bad_lists, folder)
             part(by_clerks, folder)
             part(others_that_answer, folder)
             part(killed_in_the_middle, folder)
             part(other_stops, folder)
-            out, err = (it.decode() for it in waiting.communicate(timeout=60))
+            out, err = (it.decode() for it in waiting.communicate(timeout=LONGEST_RUN))
             check("one that answers nothing", (out, err, waiting.returncode), ("accepted 0 refused 0\n", said(NO_ANSWER.format(port)), 3))
 
 

@@ -29,12 +29,16 @@ REQUESTS = [
     "patron 4 1 cardkey00004 'Dunn, \"Di\"'", "patron 5 1 cardkey00005 'Åsa Ångström'", "acquire 40 400 1 1 900 '2 × 2, \"Œuvres\"'", "acquire 50 500 1 1 900 Tides", "acquire 60 600 1 2 100 Reefs",
     "acquire 70 700 1 1 100 Dunes", "acquire 80 800 1 1 100 Shells", "close-day 1 2026-03-20", "close-day 2 2026-03-21", "grace 1 1 2", "check-out 1 10 1", "check-out 2 11 1", "place-hold 3 100 1", "place-hold-from 4 200 2 2026-03-25",
     "place-hold 4 300 2", "place-hold 5 300 1", "check-in 30 2", "check-out 5 40 1", "missing 40", "pay 5 200", "waive 5 100", "withdraw 50", "missing 70", "check-in 60 1", "place-hold 1 400 1", "cancel-hold 5",
-    "begin-day 2026-03-19", "check-in 11 1", "check-out 2 20 2", "rehome 11 2",
+    "begin-day 2026-03-19", "check-in 11 1", "check-out 2 20 2", "rehome 11 2", "copy-barcode 10 30000100000010",
+    "copy-barcode 40 007", "patron-barcode 5 Card5", "charge 4 250 2 'Photocopies, \"A4\"'", "pay-at 4 100 1",
 ]
 HEADERS = {
-    "branches": "branch,pickup,week,name", "closed-days": "branch,day", "kinds": "kind,loans,holds,debt", "rules": "kind,copy-kind,period,renewals,rate,cap,grace", "patrons": "patron,kind,name,owed",
-    "titles": "title,text", "copies": "copy,title,kind,home,price,place", "loans": "loan,copy,patron,branch,made,due,renewals-left", "holds": "hold,patron,title,branch,state,copy,until,from",
-    "lines": "line,patron,day,sort,amount,loan",
+    "branches": "branch,pickup,week,name", "closed-days": "branch,day", "kinds": "kind,loans,holds,debt",
+           "rules": "kind,copy-kind,period,renewals,rate,cap,grace", "patrons": "patron,kind,name,owed,barcode",
+    "titles": "title,text", "copies": "copy,title,kind,home,price,place,barcode",
+           "loans": "loan,copy,patron,branch,made,due,renewals-left",
+           "holds": "hold,patron,title,branch,state,copy,until,from",
+    "lines": "line,patron,day,sort,amount,loan,branch,text",
 }
 
 
@@ -54,12 +58,15 @@ def wanted(library):
         "closed-days": [texts(n, day) for n, days in in_order(library.closed) for day in sorted(days)],
         "kinds": [texts(n, it["loans"], it["holds"], it["debt"]) for n, it in in_order(library.kinds)],
         "rules": [texts(*key, *(it[name] for name in ("period", "renewals", "rate", "cap", "grace"))) for key, it in in_order(library.rules)],
-        "patrons": [texts(n, it["kind"], it["name"], library.owed(n)) for n, it in in_order(library.patrons)],
+        "patrons": [texts(n, it["kind"], it["name"], library.owed(n), library.barcodes.get(("patron", n))) for n,
+                    it in in_order(library.patrons)],
         "titles": [texts(n, it) for n, it in in_order(library.titles)],
-        "copies": [texts(n, it["title"], it["kind"], it["home"], it["price"], place(n)) for n, it in in_order(library.copies)],
+        "copies": [texts(n, it["title"], it["kind"], it["home"], it["price"], place(n),
+                         library.barcodes.get(("copy", n))) for n, it in in_order(library.copies)],
         "loans": [texts(n, *(it[name] for name in ("copy", "patron", "branch", "made", "due", "renewals"))) for n, it in in_order(library.loans) if it["ended"] is None],
         "holds": [texts(n, it["patron"], it["title"], it["branch"], it["state"], ready(it, it.get("copy")), ready(it, it.get("limit")), it["first"]) for n, it in active],
-        "lines": [texts(n, it["patron"], it["day"], it["sort"], it["amount"], it["loan"]) for n, it in enumerate(library.lines, 1)],
+        "lines": [texts(n, *(it[name] for name in ("patron", "day", "sort", "amount", "loan", "at", "text"))) for n,
+                  it in enumerate(library.lines, 1)],
     }
 
 
@@ -92,7 +99,9 @@ def whole(folder, path):
         check(f"card keys in {name}", "cardkey" in data, False)
     places = {re.sub(r" .*", "", row[5]) for row in rows["copies"]}
     check("places", places, {"shelf", "loan", "ready", "transit", "missing", "withdrawn"})
-    check("sorts of lines", {row[3] for row in rows["lines"]}, {"fine", "price", "payment", "waiver"})
+    check("sorts of lines", {row[3] for row in rows["lines"]}, {"fine", "price", "payment", "waiver", "charge"})
+    barcodes = [row[-1] for name in ("copies", "patrons") for row in rows[name] if row[-1]]
+    check("barcodes", barcodes, ["30000100000010", "007", "Card5"])
     check("who may read them", oct(os.stat(out).st_mode & 0o777), "0o700")
 
 
@@ -109,7 +118,9 @@ def impossible(folder, path):
     shutil.copy(path, damaged)
     write(damaged, "DROP TABLE lines")
     before = sorted(os.listdir(folder))
-    for what, line in ((old, f"{old} is of schema 2, and not 3"), (other, "file is not a database"), (absent, f"{absent} is no file"), (folder, f"{folder} is no file"), (damaged, "no such table: lines"),
+    for what, line in ((old, f"{old} is of schema 2, and not 4"), (other, "file is not a database"),
+                       (absent, f"{absent} is no file"), (folder, f"{folder} is no file"),
+                       (damaged, "no such table: lines"),
                        (logged, f"{logged}-wal has what isn't in {logged} yet: circ audit {logged} empties it")):
         check(f"of {what}", export(what, made), (3, "", f"export: {line}\n"))
     check("a folder that is there", export(path, folder), (3, "", f"export: {folder} is there already\n"))

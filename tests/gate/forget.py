@@ -13,7 +13,7 @@ import tempfile
 
 from room import TOP
 from lib.checking import check, part, run_script
-from lib.runs import GROUND, circ, rows_now, say, write
+from lib.runs import GROUND, answers, circ, rows_now, say, write
 from lib.serving import Serving
 
 FORGET = os.path.join(TOP, "tools", "forget")
@@ -22,10 +22,26 @@ REQUESTS = [
     ("f1", ["patron", "31", "1", "cardkey00031", "Cyd Dunning"], "ok"), ("f2", ["patron", "33", "1", "cardkey00033", "Al Three"], "ok"), ("f3", ["check-out", "3", "10", "1"], "loan 1 due 2026-03-09"),
     ("f4", ["place-hold", "3", "200", "1"], "hold 1"), ("f5", ["amend-patron", "3", "1", "Cy Dunn-Marsh"], "ok"), ("f6", ["card-key", "3", "secondkey003"], "ok"), ("f7", ["check-in", "10", "1"], "fine 0 shelf 1"),
     ("f8", ["cancel-hold", "1"], "ok"), ("f9", ["place-hold", "31", "300", "1"], "hold 2"), ("f10", ["amend-patron", "33", "1", "Al Trey"], "ok"),
+    ("f11", ["patron-barcode", "3", "OldCard3"], "ok"), ("f12", ["patron-barcode", "3", "NewCard3"], "ok"),
+            ("f13", ["drop-barcode", "NewCard3"], "ok"), ("f14", ["patron-barcode", "3", "LastCard3"], "ok"),
+    ("f15", ["patron-barcode", "31", "newcard3"], "ok"), ("f16", ["drop-barcode", "newcard3"], "ok"),
+            ("f17", ["patron-barcode", "33", "Card33"], "ok"), ("f18", ["copy-barcode", "10", "3"], "ok"),
+    ("f19", ["charge", "3", "250", "1", "Lost the diary of Cy"], "owed 250"),
+            ("f20", ["charge", "3", "40", "2", "Copies of a will"], "owed 290"),
+            ("f21", ["charge", "31", "60", "1", "Lost card"], "owed 60"),
+            ("f22", ["pay-at", "3", "90", "2"], "owed 200"),
 ]
 LEFT = [("l1", ["amend-patron", "3", "1", "Left"], "ok"), ("l2", ["card-key", "3", "lastkey00003"], "ok")]
-GONE = [b"Cy Dunn", b"Cy Dunn-Marsh", b"cardkey00003", b"secondkey003"]
+GONE = [b"Cy Dunn", b"Cy Dunn-Marsh", b"cardkey00003", b"secondkey003", b"OldCard3", b"NewCard3", b"LastCard3",
+        b"the diary", b"of a will"]
+TELLING = ["patron", "amend-patron", "card-key", "patron-barcode"]
 TABLES = ["branches", "closed_days", "kinds", "rules3", "patrons", "titles", "copies", "loans3", "holds2", "transits", "lines", "meta"]
+ACCOUNT = """patron 3 owed 200 name Left
+line 1 2026-03-02 charge 250 at 1 for {}
+line 2 2026-03-02 charge 40 at 2 for {}
+line 4 2026-03-02 payment 90 at 2
+end
+"""
 
 
 def forget(*words):
@@ -55,19 +71,33 @@ def forgotten(folder):
     check("what is there before", [it for it in GONE if it not in read(path)], [])
     tables = {it: rows_now(path, f"SELECT * FROM {it}") for it in TABLES}
     kept, mode = rows_now(path, "SELECT * FROM kept"), os.stat(path).st_mode
-    is_told = lambda caller, text: caller == 3 or (caller == 0 and text.split(" ")[:2] in (["patron", "3"], ["amend-patron", "3"], ["card-key", "3"]))
+    is_told = lambda caller, text: caller == 3 or (caller == 0
+                                                   and text.split(" ")[:2] in [*([it, "3"] for it in TELLING), ["drop-barcode", "NewCard3"]])
     gone = [row for row in kept if is_told(row[0], row[2])]
-    check("how many there are", (len(gone), sum(row[0] == 3 for row in gone)), (7, 2))
-    check("the run", forget(path, "3"), (0, "7 requests were removed\n", ""))
+    check("how many there are", (len(gone), sum(row[0] == 3 for row in gone)), (11, 2))
+    charges = {"charge 3 250 1 Lost the diary of Cy": "charge 3 250 1 removed",
+               "charge 3 40 2 Copies of a will": "charge 3 40 2 removed"}
+    check("the account before", answers(path, "q", ["account", "3", "0"]),
+          (ACCOUNT.format("Lost the diary of Cy", "Copies of a will"), 0))
+    check("the run", forget(path, "3"), (0, "11 requests and 2 texts were removed\n", ""))
     data = read(path)
     check("what is left of them", [it for it in [*GONE, *(row[1].encode() + b"place-hold 3" for row in gone)] if it in data], [])
     check("the name of now", b"Left" in data, True)
     check("the other tables", {it: rows_now(path, f"SELECT * FROM {it}") for it in TABLES}, tables)
-    check("the kept requests", rows_now(path, "SELECT * FROM kept"), [row for row in kept if row not in gone])
+    left = [(caller, key, charges.get(text, text), reply) for caller, key, text,
+            reply in (row for row in kept if row not in gone)]
+    check("the kept requests", rows_now(path, "SELECT * FROM kept"), left)
+    check("the barcodes", rows_now(path, "SELECT * FROM barcodes ORDER BY barcode"), [(1, 10, "3"), (0, 33, "Card33")])
+    check("the notes", rows_now(path, "SELECT * FROM notes ORDER BY line"),
+          [(1, 1, "removed"), (2, 2, "removed"), (3, 1, "Lost card"), (4, 2, None)])
     check("the file", (os.stat(path).st_mode, sorted(os.listdir(folder))), (mode, ["town.db", "town.db-wal"] if os.path.exists(f"{path}-wal") else ["town.db"]))
     check("the audit after it", circ(["audit", path]), ("sound", 0))
-    say(path, [("f9", ["place-hold", "31", "300", "1"], "hold 2"), ("f2", ["patron", "33", "1", "cardkey00033", "Al Three"], "ok")])
-    check("once more", forget(path, "3"), (0, "0 requests were removed\n", ""))
+    check("the account", answers(path, "q", ["account", "3", "0"]), (ACCOUNT.format("removed", "removed"), 0))
+    say(path, [("f9", ["place-hold", "31", "300", "1"], "hold 2"),
+               ("f2", ["patron", "33", "1", "cardkey00033", "Al Three"], "ok"),
+               ("f19", ["charge", "3", "250", "1", "Lost the diary of Cy"], "refused 80"),
+               ("b1", ["patron-barcode", "31", "LastCard3"], "ok"), ("b2", ["drop-barcode", "LastCard3"], "ok")])
+    check("once more", forget(path, "3"), (0, "0 requests and 0 texts were removed\n", ""))
 
 
 def impossible(folder):

@@ -20,7 +20,7 @@ from contextlib import contextmanager
 
 from room import TOP
 from lib.checking import check, part, run_script
-from lib.runs import rows_now, say
+from lib.runs import IN_MEMORY, LONGEST_RUN, rows_now, say
 from lib.serving import a_library, put_keys, started
 
 SIP2 = os.path.join(TOP, "tools", "sip2")
@@ -188,6 +188,34 @@ def holds_and_fines(port, desk):
     machine.close()
 
 
+def by_barcodes(port, desk):
+    """A label is looked up as a barcode first, and a thing without one is known by its number. A barcode that is a
+    number too names what has it, and never the thing of that number."""
+    for words in (("copy-barcode", "30", "30000100000030"), ("patron-barcode", "1", "20000000000001"),
+                  ("copy-barcode", "60", "31"), ("patron-barcode", "3", "30"), ("copy-barcode", "20", "C60")):
+        check(f"{words}", desk(*words)[0], 200)
+    machine = Machine(port)
+    check("an item by its barcode", machine.says(item("30000100000030")),
+          "18130001DATEAB30000100000030|AJNight Ferries|AQ1|")
+    check("the same by its number", machine.says(item("C30")), "18130001DATEABC30|AJNight Ferries|AQ1|")
+    check("a barcode that is a number", machine.says(item("31")), "18030001DATEAB31|AJThis / That|AQ1|")
+    check("a number that is a patron's barcode", machine.says(item("30")),
+          "18010001DATEAB30|AJ|AFThis item is unknown.|")
+    check("a number with its prefix that is a barcode", machine.says(item("C60")),
+          "18100001DATEABC60|AJSalt Roads|AQ2|")
+    check("a patron by the barcode", machine.says(status("20000000000001")),
+          f"24{' ' * 14}000DATEAOtown|AA20000000000001|AEAnn Bell|BLY|CQN|BV0.00|")
+    check("with the card key", machine.says(status("20000000000001", "ADcardkey00001|")).partition("|BL")[2],
+          "Y|CQY|BV0.00|")
+    check("a copy's barcode for a patron", machine.says(status("30000100000030")),
+          f"24Y{' ' * 13}000DATEAOtown|AA30000100000030|AE|BLN|CQN|AFThis card is unknown.|")
+    check("no such barcode", machine.says(status("20000000000002")),
+          f"24Y{' ' * 13}000DATEAOtown|AA20000000000002|AE|BLN|CQN|AFThis card is unknown.|")
+    check("a check-out", machine.says(check_out("20000000000001", "31"))[:6], "121NUY")
+    check("and a check-in", machine.says(check_in("31"))[:6], "101YUN")
+    machine.close()
+
+
 def again(port, path):
     """A message that comes again under its number acts once."""
     machine = Machine(port)
@@ -241,7 +269,8 @@ def while_away(port, path, keys, serving):
 def bad(folder, keys, logins):
     """Wrong words and files."""
     def told(*words):
-        run = subprocess.run([sys.executable, SIP2, *words], capture_output=True, text=True, timeout=60, check=False)
+        run = subprocess.run([sys.executable, SIP2, *words], capture_output=True, text=True, timeout=LONGEST_RUN,
+                             check=False)
         return run.returncode, run.stdout, run.stderr
 
     for words in ((), ("8080", f"@{keys}", "1", "127.0.0.1:0"), ("0", f"@{keys}", "1", "127.0.0.1:0", logins), ("8080", keys, "1", "127.0.0.1:0", logins), ("8080", f"@{keys}", "x", "127.0.0.1:0", logins),
@@ -262,19 +291,22 @@ def bad(folder, keys, logins):
 
 
 def main():
-    with tempfile.TemporaryDirectory() as folder:
+    with tempfile.TemporaryDirectory(dir=IN_MEMORY) as folder:
         path, (keys, logins) = a_library(folder, "town.db"), files(folder)
         run, own = a_desk(path, keys)
         count = iter(range(1000))
 
         def desk(*words):
-            told = subprocess.run([f"{TOP}/circ", "send", str(own), "@/dev/stdin", f"d{next(count)}", *words], input="ann desk annkey000001\n", capture_output=True, text=True, timeout=60, check=False)
+            told = subprocess.run([f"{TOP}/circ", "send", str(own), "@/dev/stdin", f"d{next(count)}", *words],
+                                  input="ann desk annkey000001\n", capture_output=True, text=True, timeout=LONGEST_RUN,
+                                  check=False)
             return {0: 200}.get(told.returncode, told.returncode), told.stdout.rstrip("\n")
 
         with bridge(own, keys, logins) as port:
             part(protocol, port)
             part(circulation, port, path)
             part(holds_and_fines, port, desk)
+            part(by_barcodes, port, desk)
             part(again, port, path)
             part(many, port, desk)
             run = while_away(port, path, keys, (run, own))
