@@ -593,7 +593,7 @@ def others(folder):
     os.mkdir(empty)
     os.mkdir(apart)
     # outside the checkout
-    for tool in (BACKUP, os.path.join(TOP, "tools", "circ_tool.py")):
+    for tool in (BACKUP, *(os.path.join(TOP, "tools", it) for it in ("circ_client.py", "circ_tool.py"))):
         shutil.copy(tool, apart)
     machine.bad("no circ", ["there is no circ to audit by, neither beside this program nor on the path"], *words, by=[sys.executable], tool=os.path.join(apart, "backup"), env={"PATH": empty})
     without = {**os.environ, "PATH": f"{empty}:{os.environ['PATH']}"}

@@ -19,7 +19,7 @@ from room import TOP
 from lib.checking import check, part, run_script
 
 COMPLETION = "share/bash-completion/completions/circ"
-TOOLS = ["circ-backup", "circ-copies", "circ-create", "circ-day", "circ-enrol", "circ-export", "circ-forget", "circ-restore", "circ-sip2", "circ-tell", "circ-watch"]
+TOOLS = ["circ-backup", "circ-copies", "circ-create", "circ-day", "circ-enrol", "circ-export", "circ-forget", "circ-label", "circ-move-in", "circ-restore", "circ-sip2", "circ-tell", "circ-watch"]
 FILES = ["bin/circ", *(f"bin/{it}" for it in TOOLS), "share/circ/circ_client.py", "share/circ/circ_tool.py", "share/man/man1/circ.1", *(f"share/man/man1/{it}.1" for it in TOOLS), COMPLETION,
          *(f"share/circ/pages/{name}" for name in sorted(os.listdir(os.path.join(TOP, "pages"))))]
 
@@ -583,7 +583,7 @@ def main():
         source = f'source "{prefix}/{COMPLETION}"; COMP_WORDS=("{prefix}/bin/circ" file town.db k1 gr); COMP_CWORD=4; _circ; echo "${{COMPREPLY[*]}}"'
         check("the completion of one command alone", run("bash", "-c", source).stdout, "grace\n")
         source = f'source "{prefix}/{COMPLETION}"; COMP_WORDS=("{prefix}/bin/circ" send 8080 deskkey00001 k1 cop); COMP_CWORD=5; _circ; echo "${{COMPREPLY[*]}}"'
-        check("the completion of a question", run("bash", "-c", source).stdout, "copy copies\n")
+        check("the completion of a question", run("bash", "-c", source).stdout, "copy-barcode copy copies\n")
         for at, words in ((6, f"serve town.db 8080 1 1 @{place}/des"), (3, f"send 8080 @{place}/des")):
             source = f'source "{prefix}/{COMPLETION}"; COMP_WORDS=("{prefix}/bin/circ" {words}); COMP_CWORD={at}; _circ; echo "${{COMPREPLY[*]}}"'
             check(f"the completion of {words}", run("bash", "-c", source).stdout, f"@{place}/desk.keys\n")

@@ -47,7 +47,7 @@ PLACED = {
     **{f"usr/lib/systemd/system/{name}": f"docs/operations/{name}" for name in UNITS},
     **{f"usr/share/doc/circ/examples/{name}": f"docs/operations/{name}" for name in EXAMPLES},
 }
-TOOLS = {f"usr/bin/circ-{name}": f"tools/{name}" for name in ("backup", "copies", "create", "day", "enrol", "export", "forget", "restore", "sip2", "tell", "watch")}
+TOOLS = {f"usr/bin/circ-{name}": f"tools/{name}" for name in ("backup", "copies", "create", "day", "enrol", "export", "forget", "label", "move-in", "restore", "sip2", "tell", "watch")}
 PAGES = {f"usr/share/man/man1/{os.path.basename(path)}.1.gz": path for path in TOOLS}
 MODES = {**dict.fromkeys([*PLAIN, *PACKED, *PLACED, *DOCUMENTS, *PAGES], 0o644), **dict.fromkeys(["usr/bin/circ", *TOOLS], 0o755)}
 SCRIPTS = ["postinst", "postrm", "prerm"]
