@@ -10,7 +10,7 @@ function serve(work, patron, mode) {
   if (work.expected !== patron) work.nextPatron();
   showMode(mode);
   work.choose(mode);
-  if (work.expected !== patron) work.scan(mode, String(patron));
+  if (work.expected !== patron) work.pick(mode, patron);
   showTab("circulation");
   focusScan();
 }

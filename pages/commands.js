@@ -17,6 +17,9 @@ export const COMMANDS = {
   "amend-title": ["title", "text"],
   "amend-copy": ["copy", "kind", "price"],
   "rehome": ["copy", "branch"],
+  "copy-barcode": ["copy", "barcode"],
+  "patron-barcode": ["patron", "barcode"],
+  "drop-barcode": ["barcode"],
   "check-out": ["patron", "copy", "branch"],
   "check-in": ["copy", "branch"],
   "renew": ["loan"],
@@ -29,6 +32,8 @@ export const COMMANDS = {
   "withdraw": ["copy"],
   "pay": ["patron", "amount"],
   "waive": ["patron", "amount"],
+  "charge": ["patron", "amount", "branch", "text"],
+  "pay-at": ["patron", "amount", "branch"],
   "page": ["patron"],
   "copy": ["copy"],
   "copies": ["title", "after"],
@@ -50,6 +55,8 @@ export const COMMANDS = {
   "rules": ["kind", "after"],
   "missing-copies": ["after"],
   "loans": ["copy", "after"],
+  "find-barcode": ["barcode"],
+  "till-at": ["branch", "day"],
 };
 
 // The kinds of the parts that aren't numbers.
@@ -61,6 +68,7 @@ export const KINDS = {
   "rate": "Amount",
   "cap": "Amount",
   "card-key": "CardKey",
+  "barcode": "Barcode",
   "price": "Amount",
   "text": "Name",
   "amount": "Amount",
@@ -68,7 +76,7 @@ export const KINDS = {
 
 // The commands that only ask.
 export const QUESTIONS = ["page", "copy", "copies", "queue", "account", "debts", "overdue", "shelf", "pulls", "transits", "till", "today", "borrower", "find-patrons", "find-titles",
-  "branches", "closed-days", "kinds", "rules", "missing-copies", "loans"];
+  "branches", "closed-days", "kinds", "rules", "missing-copies", "loans", "find-barcode", "till-at"];
 
 // Whether words only ask, and change nothing.
 export const onlyAsk = (words) => QUESTIONS.includes(words[0]);
@@ -106,6 +114,10 @@ export function holdBody(title, branch, day) {
 
 export function isKey(text) {
   return /^[A-Za-z0-9]{8,32}$/.test(text);
+}
+
+export function isBarcode(text) {
+  return /^[A-Za-z0-9]{1,24}$/.test(text);
 }
 
 export function isNumber(text) {

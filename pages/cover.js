@@ -1,5 +1,6 @@
 // The cover of a desk that was left: one line, and the field for the desk key. What waits goes on being sent below it, and nothing that stands there is shown or pressed.
 
+import { once } from "./clicks.js";
 import { Idle } from "./idle.js";
 import { it } from "./screen.js";
 import { soundAlarm } from "./sound.js";
@@ -8,13 +9,14 @@ import { IDLE_MINUTES, TEXTS, say } from "./texts.js";
 const COVERED = ["main", "desk", "scanning", "sign-out"];
 
 export class Cover {
-  // `key` gives the key that the desk was opened with, and `lifted` is called once it is typed.
-  constructor(key, lifted) {
-    Object.assign(this, { key, lifted, idle: new Idle(() => this.put()) });
+  // `key` gives the key that the desk was opened with, and `lifted` is called once it is typed; `left` where the desk is left to another clerk.
+  constructor(key, lifted, left) {
+    Object.assign(this, { key, lifted, left, idle: new Idle(() => this.put()) });
     it("cover").addEventListener("submit", (event) => {
       event.preventDefault();
       this.lift(it("cover-key").value.trim());
     });
+    it("cover-leave").addEventListener("click", once(() => this.leave()));
     it("main").addEventListener("click", (event) => this.hold(event), { capture: true });
   }
 
@@ -46,6 +48,12 @@ export class Cover {
     this.show(false);
     this.idle.renew();
     return this.lifted();
+  }
+
+  leave() {
+    it("cover-key").value = "";
+    this.show(false);
+    this.left();
   }
 
   // What is covered isn't pressed by its access key, either.

@@ -33,6 +33,7 @@ let leaving = null;
 let day = null;
 let asking = null;
 let papers = null;
+let behind = null;
 const branches = new Branches(localStorage);
 const forms = new EntryForms((words) => {
   work.press(words);
@@ -76,6 +77,7 @@ const screen = {
     showWaiting(queue);
   },
   wanted: showWanted,
+  sought: (text) => search.seek(text),
   visit: (visit) => showVisit(visit, (action) => act(openDesk(), action)),
   slip: (slip) => {
     showSlip(slip);
@@ -123,7 +125,7 @@ function showBranches(rows) {
 }
 
 const year = new YearView(openDesk);
-const cover = new Cover(() => desk().key, focusScan);
+const cover = new Cover(() => desk().key, focusScan, leave);
 
 // The branches that this machine knows, for whoever signs in.
 function offerBranches() {
@@ -155,7 +157,7 @@ function open() {
   papers = new Papers(sessionStorage, MOST_NOTES);
   for (const slip of papers.slips) showSlip(slip);
   for (const what of papers.notes) note(...what);
-  const behind = new LeftBehind(branch, key, sessionStorage, localStorage);
+  behind = new LeftBehind(branch, key, sessionStorage, localStorage);
   behind.beOpen();
   work = new Work({ branch, ask, screen, storage: sessionStorage, day, lendsAlone, kept: (items) => behind.keep(items) });
   showMode(work.turn.mode);
@@ -166,7 +168,6 @@ function open() {
   if (work.service.visit?.receipt.day === null) work.service.lookForDay();
   else day.look();
   cover.idle.begin();
-  return behind;
 }
 
 // Opens the desk once its key and its branch are found right.
@@ -184,7 +185,8 @@ async function tryToOpen(key, branch) {
   tell("");
   const tabs = await openTabs();
   if (mine !== leaving) return;
-  takeOver(open().take(tabs));
+  open();
+  takeOver(behind.take(tabs));
   showBranches(found.rows);
 }
 
@@ -212,9 +214,10 @@ function closing(unknown, unsent) {
   return told.map(([text, what]) => say(text, { what: what.join("; ") })).join(" ") || TEXTS.closed;
 }
 
-it("sign-out").addEventListener("click", () => {
-  const { unknown, unsent } = work.end();
+// Leaves nothing of the open desk on the page, and tells.
+function close(text, isWrong) {
   leaving.abort();
+  behind.leave();
   search.end();
   cover.idle.end();
   sessionStorage.clear();
@@ -232,15 +235,25 @@ it("sign-out").addEventListener("click", () => {
   showMode("check-out");
   showTab("circulation");
   silence();
-  tell(closing(unknown, unsent), unknown.length + unsent.length > 0);
+  tell(text, isWrong);
   it("desk-key").focus();
+}
+
+it("sign-out").addEventListener("click", () => {
+  const { unknown, unsent } = work.end();
+  close(closing(unknown, unsent), unknown.length + unsent.length > 0);
 });
+
+// Leaves a covered desk to another clerk: what waits is kept for the one who scanned it.
+function leave() {
+  close(work.leave() ? TEXTS.leftKept : TEXTS.closed, false);
+}
 
 fillIn();
 const search = new SearchBox({
   ask: (words, signal) => askBy(desk().key, signal, words, newKey(), () => tellUnknown(TEXTS.unknownOpening)),
   wanted: () => wanted(mode(), work.expected),
-  take: (number) => work.scan(mode(), number),
+  take: (number) => work.pick(mode(), number),
 });
 listenForScans({ work: () => work, search });
 listenForWords(() => work);

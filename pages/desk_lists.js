@@ -2,9 +2,10 @@
 
 import { buttonsOf, renew } from "./action_buttons.js";
 import { isAskedFirst } from "./asked_first.js";
-import { isNumber, onlyAsk } from "./commands.js";
+import { isBarcode, isNumber, onlyAsk } from "./commands.js";
 import { plain, write } from "./isolating.js";
 import { readCopy, readList } from "./questions.js";
+import { foundBy } from "./replies.js";
 import { actionsOfRow } from "./row_actions.js";
 import { saidNo } from "./saying.js";
 import { saveFile } from "./saving.js";
@@ -12,8 +13,8 @@ import { cut, nameOf } from "./scans.js";
 import { backToLine, focusScan } from "./scan_line.js";
 import { it, print } from "./screen.js";
 import { csvOf, fileNameOf, sorted, sortedNext } from "./sheet.js";
-import { expiredHold, headOf, tableOf, wordsOfQuestion } from "./tables.js";
-import { TEXTS, branchName, say } from "./texts.js";
+import { expiredHold, headOf, isOfBranch, tableOf, wordsOfQuestion } from "./tables.js";
+import { TEXTS, TOWN, branchName, say } from "./texts.js";
 import { speak } from "./voice.js";
 
 // What is shown, what was asked last, and how many lists were asked for: the answer to one that was asked for before the last comes too late. How the rows are sorted, null where they
@@ -22,8 +23,8 @@ const view = { shown: null, last: null, asked: 0, tillDay: "", sorting: null, do
 
 // the questions by the panel that shows what they are answered
 const QUESTIONS = {
-  lists: ["pulls", "shelf", "transits", "overdue", "debts", "missing-copies", "till"],
-  patrons: ["find-patrons", "account"],
+  lists: ["pulls", "shelf", "transits", "overdue", "debts", "missing-copies", "till", "till-at"],
+  patrons: ["find-patrons", "account", "borrower"],
   catalogue: ["find-titles", "copy", "loans", "copies", "queue"],
   settings: ["branches", "closed-days", "kinds", "rules"],
 };
@@ -118,7 +119,7 @@ function show({ question, list, branch, day }) {
   const { head, columns, rows, made } = tableShown({ question, list });
   const expired = expiredHolds({ question, list, day });
   write(it("list-head"), head);
-  it("list-place").textContent = say(TEXTS.listPlace, { branch: branchName(branch), day: day ?? TEXTS.noDay });
+  it("list-place").textContent = say(TEXTS.listPlace, { branch: isOfBranch(question) ? branchName(branch) : TOWN, day: day ?? TEXTS.noDay });
   it("list-columns").replaceChildren(headsOf(columns));
   renew(it("list-rows"), rows.map((cells) => rowOf(cells, actionsLeft(made.get(cells)), whatOf(made.get(cells)))));
   it("unshelve-all").hidden = expired.length < 2;
@@ -130,7 +131,8 @@ function show({ question, list, branch, day }) {
 }
 
 // What was answered, as a list; one without a head is told by what was asked about.
-function read(question, about, text) {
+function read(question, about, { reply, text }) {
+  if (question === "borrower") return reply.kind === "borrower" ? { head: { patron: reply.patron }, rows: [reply], after: null } : null;
   if (question === "copy") {
     const copy = readCopy(text);
     return copy && { head: { copy: copy.copy }, rows: [copy], after: null };
@@ -153,10 +155,10 @@ async function ask(desk, question, about, after, before) {
   moveTo(panelOf(question));
   const mine = view.asked;
   tell(TEXTS.sending);
-  const words = wordsOfQuestion(question, about, after);
+  const words = wordsOfQuestion(question, about, after, desk.branch);
   const answer = await desk.ask(words, () => mine === view.asked && tell(TEXTS.unknownOpening, true));
   if (!answer || mine !== view.asked) return;
-  const list = answer.reply && read(question, about, answer.text);
+  const list = answer.reply && read(question, about, answer);
   if (!list) return tell(saidNo(answer.reply ? { strange: 200 } : answer, words), true);
   view.shown = { question, about, branch: desk.branch, day: desk.day, act: desk.act, list: { ...list, rows: [...before, ...list.rows] } };
   show(view.shown);
@@ -165,17 +167,33 @@ async function ask(desk, question, about, after, before) {
 // What is wrong with what a question is about, which is a text, or a number with its prefix or without.
 function problemOf(question, text, { of, number }) {
   if (question.startsWith("find-")) return text === "" ? say(TEXTS.wrongForm, { what: TEXTS.soughtForm }) : null;
-  const kind = { copy: "copy", loans: "copy", copies: "title", queue: "title", account: "patron", rules: "kind" }[question];
+  const kind = { copy: "copy", loans: "copy", copies: "title", queue: "title", account: "patron", borrower: "patron", rules: "kind" }[question];
   if (of !== null && of !== kind) return say(TEXTS.otherScanned, { is: nameOf(of), wanted: nameOf(kind) ?? TEXTS.aKind });
   return isNumber(number) ? null : say(TEXTS.wrongForm, { what: TEXTS.numberForm });
 }
 
+// Whose a scan is that is looked up: by its barcode, or else by its prefix; null where that isn't told, or something else was asked for meanwhile.
+async function scanned(desk, question, text) {
+  if (question.startsWith("find-") || question === "rules" || !isBarcode(text)) return cut(text);
+  view.asked += 1;
+  const mine = view.asked;
+  tell(TEXTS.sending);
+  const words = ["find-barcode", text];
+  const answer = await desk.ask(words, () => mine === view.asked && tell(TEXTS.unknownOpening, true));
+  if (!answer || mine !== view.asked) return null;
+  const found = foundBy(answer);
+  if (found === undefined) tell(saidNo(answer.reply ? { strange: 200 } : answer, words), true);
+  return found === null ? cut(text) : found && { of: found.of, number: String(found.number) };
+}
+
 // Asks about what stands in the field of a form.
-function lookUp(desk, form, question) {
+async function lookUp(desk, form, question) {
   const text = form.querySelector("input").value.trim();
-  const scan = cut(text);
-  const problem = problemOf(question, text, scan);
   moveTo(panelOf(question));
+  view.last = question;
+  const scan = await scanned(desk, question, text);
+  if (!scan) return;
+  const problem = problemOf(question, text, scan);
   if (problem) return tell(problem, true);
   return ask(desk, question, question.startsWith("find-") ? text : scan.number, 0, []);
 }
@@ -203,7 +221,7 @@ export function listEnded(desk, words) {
   view.done.add(words.join(" "));
   const { question, about } = view.shown;
   if (view.last !== question || it("sheet").parentElement.id !== panelOf(question)) return;
-  if (["copy", "branches", "closed-days", "kinds", "rules"].includes(question)) ask(desk, question, about, 0, []);
+  if (["copy", "borrower", "branches", "closed-days", "kinds", "rules"].includes(question)) ask(desk, question, about, 0, []);
   else show(view.shown);
 }
 
@@ -230,12 +248,12 @@ export function clearLookUps() {
 // `desk` gives the branch of the open desk, and how it asks.
 export function listenForLists(desk) {
   listenToButtons(desk);
-  const till = () => ask(desk(), "till", it("till-day").value || desk().day, 0, []);
+  const till = (question) => ask(desk(), question, it("till-day").value || desk().day, 0, []);
   for (const form of [it("counting"), it("ruling"), ...lookUps()]) {
     form.addEventListener("submit", (event) => {
       event.preventDefault();
       const { value } = event.submitter ?? form.querySelector("button");
-      if (value === "till") till();
+      if (["till", "till-at"].includes(value)) till(value);
       else lookUp(desk(), form, value);
       focusScan();
     });

@@ -9,9 +9,10 @@ import { MEANINGS, TEXTS, say } from "./texts.js";
 
 // the forms of each panel by their commands, with what each is called
 const FORMS = {
-  patrons: { "patron": TEXTS.enrol, "amend-patron": TEXTS.amendPatron, "card-key": TEXTS.giveCardKey, "waive": TEXTS.waiveOwed },
+  patrons: { "patron": TEXTS.enrol, "amend-patron": TEXTS.amendPatron, "card-key": TEXTS.giveCardKey, "patron-barcode": TEXTS.patronBarcode, "charge": TEXTS.chargePatron, "waive": TEXTS.waiveOwed },
   catalogue: {
-    "acquire": TEXTS.acquireCopy, "amend-title": TEXTS.amendTitle, "amend-copy": TEXTS.amendCopy, "rehome": TEXTS.rehomeCopy, "missing": TEXTS.reportMissing, "withdraw": TEXTS.withdrawCopy,
+    "acquire": TEXTS.acquireCopy, "amend-title": TEXTS.amendTitle, "amend-copy": TEXTS.amendCopy, "rehome": TEXTS.rehomeCopy, "copy-barcode": TEXTS.copyBarcode,
+    "drop-barcode": TEXTS.dropBarcode, "missing": TEXTS.reportMissing, "withdraw": TEXTS.withdrawCopy,
   },
   settings: {
     "close-day": TEXTS.closeDay, "open-day": TEXTS.openDay, "week": TEXTS.setWeek, "amend-branch": TEXTS.amendBranch, "branch": TEXTS.makeBranch, "kind": TEXTS.setKind, "rule": TEXTS.setRule, "grace": TEXTS.setGrace,
@@ -36,7 +37,7 @@ function weekOf(id) {
 function controlOf(command, part, id) {
   if (KINDS[part] === "Mask") return weekOf(id);
   if (isBranch(part) && command !== "branch") return element("select", { id });
-  const isFree = ["Name", "CardKey"].includes(KINDS[part]);
+  const isFree = ["Name", "CardKey", "Barcode"].includes(KINDS[part]);
   return element("input", { id, type: KINDS[part] === "Day" ? "date" : "text", inputMode: isFree ? "text" : KINDS[part] === "Amount" ? "decimal" : "numeric", spellcheck: false, autocomplete: "off", dir: isFree ? "auto" : "ltr" });
 }
 
@@ -46,7 +47,7 @@ class Field {
     this.part = part;
     this.control = controlOf(command, part, id);
     this.problem = element("span", { id: `${id}-problem`, className: "problem" });
-    const hint = element("span", { id: `${id}-hint`, className: "hint", textContent: formOf(part) });
+    const hint = element("span", { id: `${id}-hint`, className: "hint", textContent: formOf(part, command) });
     const label = element("label", { id: `${id}-label`, htmlFor: id, textContent: labelOf(command, part) });
     const makes = KINDS[part] === "CardKey" ? [element("button", { type: "button", textContent: TEXTS.makeKey })] : [];
     for (const button of makes) button.addEventListener("click", () => { this.value = newKey().slice(0, 12); });
@@ -106,7 +107,7 @@ class EntryForm {
   // Whether each field has its form; the first one that hasn't gets the focus.
   isRight() {
     const wrong = this.fields.filter((field) => {
-      const problem = problemOfField(field.part, field.value);
+      const problem = problemOfField(field.part, field.value, this.command);
       field.tell(problem);
       return problem !== null;
     });
@@ -191,6 +192,6 @@ export class EntryForms {
   // Clears what is filled in of a patron who has left; who is being enrolled isn't there yet.
   clearPatron() {
     this.forms.patron.forget();
-    this.clear(["amend-patron", "card-key", "waive"]);
+    this.clear(["amend-patron", "card-key", "patron-barcode", "charge", "waive"]);
   }
 }

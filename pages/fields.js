@@ -1,12 +1,12 @@
 // The fields of forms: what each part of a command is called there, what it must be, and what is sent of it.
 
-import { COMMANDS, KINDS, centsOf, isKey, isNumber } from "./commands.js";
+import { COMMANDS, KINDS, centsOf, isBarcode, isKey, isNumber } from "./commands.js";
 import { isDay } from "./days.js";
 import { isName } from "./misread.js";
 import { TEXTS, amount, say } from "./texts.js";
 
 const LABELS = {
-  "amount": TEXTS.partAmount, "branch": TEXTS.partBranch, "cap": TEXTS.partCap, "card-key": TEXTS.cardKey, "copy": TEXTS.partCopy, "copy-kind": TEXTS.partCopyKind, "day": TEXTS.partDay,
+  "amount": TEXTS.partAmount, "barcode": TEXTS.colBarcode, "branch": TEXTS.partBranch, "cap": TEXTS.partCap, "card-key": TEXTS.cardKey, "copy": TEXTS.partCopy, "copy-kind": TEXTS.partCopyKind, "day": TEXTS.partDay,
   "days": TEXTS.partDays, "debt": TEXTS.partDebt, "hold": TEXTS.colHold, "holds": TEXTS.partHolds, "home": TEXTS.partHome, "kind": TEXTS.partKind, "loans": TEXTS.partLoans, "mask": TEXTS.partMask,
   "name": TEXTS.partName, "patron": TEXTS.cardNumber, "period": TEXTS.partPeriod, "pickup": TEXTS.partPickup, "price": TEXTS.partPrice, "rate": TEXTS.partRate, "renewals": TEXTS.partRenewals,
   "text": TEXTS.partText, "title": TEXTS.titleNumber,
@@ -18,10 +18,15 @@ const LIMITS = {
   "holds": [0, 200], "period": [1, 365], "renewals": [0, 99], "days": [0, 365], "debt": [0, 1_000_000], "rate": [0, 10_000], "cap": [0, 100_000], "price": [0, 1_000_000],
 };
 
+const CHARGE = { "amount": [1, 1_000_000] };
+
+const limitsOf = (command, part) => (command === "charge" && CHARGE[part]) || LIMITS[part];
+
 const isWithin = (number, [least, most]) => number >= least && number <= most;
 
-// A kind of a copy is called so where a command has no kind of patrons.
+// A kind of a copy is called so where a command has no kind of patrons, and the text of a charge by what it is.
 export function labelOf(command, part) {
+  if (command === "charge" && part === "text") return TEXTS.partFor;
   return part === "kind" && ["acquire", "amend-copy"].includes(command) ? TEXTS.partCopyKind : LABELS[part];
 }
 
@@ -29,23 +34,26 @@ export function labelOf(command, part) {
 export const isBranch = (part) => part === "branch" || part === "home";
 
 // What a part must be; a branch that is chosen and a week that is ticked can be nothing else.
-export function formOf(part) {
+export function formOf(part, command) {
+  const limits = limitsOf(command, part);
   switch (KINDS[part]) {
-    case "Amount": return part in LIMITS ? say(TEXTS.amountUpTo, { most: amount(LIMITS[part][1]) }) : TEXTS.amountForm;
+    case "Amount": return limits ? say(TEXTS.amountUpTo, { most: amount(limits[1]) }) : TEXTS.amountForm;
     case "Day": return TEXTS.mustDay;
     case "CardKey": return TEXTS.cardKeyForm;
+    case "Barcode": return TEXTS.barcodeForm;
     case "Name": return TEXTS.nameForm;
     case "Mask": return TEXTS.maskForm;
-    default: return part in LIMITS ? say(TEXTS.numberFromTo, { least: LIMITS[part][0], most: LIMITS[part][1] }) : TEXTS.numberForm;
+    default: return limits ? say(TEXTS.numberFromTo, { least: limits[0], most: limits[1] }) : TEXTS.numberForm;
   }
 }
 
-function isRight(part, text) {
-  const limits = LIMITS[part] ?? [0, 4_294_967_295];
+function isRight(part, text, command) {
+  const limits = limitsOf(command, part) ?? [0, 4_294_967_295];
   switch (KINDS[part]) {
     case "Amount": return centsOf(text) !== null && isWithin(centsOf(text), limits);
     case "Day": return isDay(text);
     case "CardKey": return isKey(text);
+    case "Barcode": return isBarcode(text);
     case "Name": return isName(text) && !text.startsWith("-");
     case "Mask": return text.includes("o");
     default: return isNumber(text) && isWithin(Number(text), limits);
@@ -53,8 +61,8 @@ function isRight(part, text) {
 }
 
 // What is wrong with what stands in a field; null where nothing is.
-export function problemOfField(part, text) {
-  return isRight(part, text) ? null : say(TEXTS.wrongForm, { what: formOf(part) });
+export function problemOfField(part, text, command) {
+  return isRight(part, text, command) ? null : say(TEXTS.wrongForm, { what: formOf(part, command) });
 }
 
 // The words of a form that is filled in, by the parts of its command.
@@ -63,7 +71,8 @@ export function wordsOfForm(command, values) {
 }
 
 const PARTS_OF_REFUSALS = {
-  10: ["branch", "home"], 11: ["patron"], 12: ["title"], 13: ["copy"], 16: ["copy-kind"], 17: ["kind"], 20: ["patron", "copy", "branch"], 22: ["mask"], 23: ["day"], 24: ["day"], 25: ["day"], 60: ["amount"],
+  10: ["branch", "home"], 11: ["patron"], 12: ["title"], 13: ["copy"], 16: ["copy-kind"], 17: ["kind"], 18: ["barcode"], 20: ["patron", "copy", "branch"],
+  21: ["amount"], 22: ["mask"], 23: ["day"], 24: ["day"], 25: ["day"], 26: ["barcode"], 60: ["amount"],
 };
 
 // The part of a command that a refusal is about; null where it is about none.

@@ -2,6 +2,7 @@
 
 export const NUMBER = "(0|[1-9][0-9]{0,15})";
 export const DAY = "([0-9]{4}-[0-9]{2}-[0-9]{2})";
+export const BARCODE = "([A-Za-z0-9]{1,24})";
 // a name or a title: whatever a line can hold, and a line ends at a newline alone
 export const TEXT = "([^\\n]+)";
 

@@ -1,4 +1,4 @@
-// What waits at a desk is kept on this machine too, in the case that its tab is closed: the next desk of its branch that is opened here with the same key takes it over. Under the
+// What waits at a desk is kept on this machine too, in the case that its tab is closed or left to another clerk: the next desk of its branch that is opened here with the same key takes it over. Under the
 // key of another clerk a request whose answer was lost would be done a second time.
 
 import { newKey } from "./asking.js";
@@ -18,6 +18,8 @@ export class LeftBehind {
     Object.assign(this, { branch, machine, mark: markOf(key) });
     this.tab = storage.getItem(TAB) ?? newKey();
     storage.setItem(TAB, this.tab);
+    // open until `leave` is called
+    this.open = new Promise((done) => { this.leave = done; });
   }
 
   // Keeps what waits in this tab.
@@ -35,9 +37,9 @@ export class LeftBehind {
     return found.flatMap(({ items }) => items);
   }
 
-  // Says to other tabs that this one is open, as long as it is; a browser does so over TLS alone, or on the machine itself.
+  // Says to other tabs that this one is open, as long as it is and isn't left; a browser does so over TLS alone, or on the machine itself.
   beOpen(locks = globalThis.navigator?.locks) {
-    locks?.request(KEPT + this.tab, () => new Promise(() => {}));
+    locks?.request(KEPT + this.tab, () => this.open);
   }
 }
 

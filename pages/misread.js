@@ -1,6 +1,6 @@
 // What is wrong with a line that isn't a command: which word, and why, as the command line tells it; but an amount is typed as it is shown, such as 2.50.
 
-import { COMMANDS, KINDS, centsOf, isKey, isNumber, readLine } from "./commands.js";
+import { COMMANDS, KINDS, centsOf, isBarcode, isKey, isNumber, readLine } from "./commands.js";
 import { isDay } from "./days.js";
 import { TEXTS, say } from "./texts.js";
 
@@ -18,6 +18,7 @@ const FORMS = {
   Day: [isDay, TEXTS.mustDay],
   Mask: [(word) => /^[oc]{7}$/.test(word), TEXTS.mustMask],
   CardKey: [isKey, TEXTS.mustCardKey],
+  Barcode: [isBarcode, TEXTS.mustBarcode],
   Name: [isName, TEXTS.mustName],
 };
 

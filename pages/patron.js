@@ -9,7 +9,7 @@ import { Idle } from "./idle.js";
 import { marked, plain, write } from "./isolating.js";
 import { saveFile } from "./saving.js";
 import { renewalsLeft, saidNo, stateOf } from "./saying.js";
-import { cut, nameOf } from "./scans.js";
+import { ownNumber } from "./scans.js";
 import { SignedIn } from "./signed_in.js";
 import { BRANCHES, IDLE_MINUTES, TEXTS, amount, fillIn, say } from "./texts.js";
 import { silence, speak } from "./voice.js";
@@ -158,10 +158,9 @@ async function act(path, body) {
 
 it("sign-in").addEventListener("submit", async (event) => {
   event.preventDefault();
-  const { of, number } = cut(it("number").value.trim());
+  const { number, problem } = ownNumber(it("number").value.trim());
   const key = it("card-key").value.trim();
-  if (of === "copy") return tell(say(TEXTS.otherScanned, { is: nameOf(of), wanted: nameOf("patron") }), true);
-  if (!isNumber(number)) return tell(say(TEXTS.wrongForm, { what: TEXTS.numberForm }), true);
+  if (problem) return tell(problem, true);
   if (!isKey(key)) return tell(say(TEXTS.wrongForm, { what: TEXTS.cardKeyForm }), true);
   it("card-key").value = "";
   patron?.signOut();

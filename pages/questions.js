@@ -1,6 +1,6 @@
 // What the desk answers to questions: a copy, and lists of rows. tests/gate/pages.mjs tries every form.
 
-import { DAY, NUMBER, TEXT, firstOf } from "./forms.js";
+import { BARCODE, DAY, NUMBER, TEXT, firstOf } from "./forms.js";
 
 const BLANKS = " *";
 
@@ -29,17 +29,21 @@ const PLACES_IN_LIST = [
 const COPY = [[`copy ${NUMBER} home ${NUMBER} kind ${NUMBER} price ${NUMBER} title ${NUMBER} ${TEXT}`,
   ([copy, home, kind, price, title, text]) => ({ copy: Number(copy), home: Number(home), kind: Number(kind), price: Number(price), title: Number(title), text })]];
 
-// A copy and its place; null where the text is none.
+const LABEL = [[`barcode ${BARCODE}`, ([barcode]) => barcode]];
+
+// A copy, its place, and its barcode or null; null where the text is none.
 export function readCopy(text) {
-  const [first, second, ...more] = text.split("\n");
+  const [first, second, third, ...more] = text.split("\n");
   const copy = firstOf(COPY, first);
   const place = second !== undefined && more.length === 0 ? firstOf(PLACES, second) : null;
-  return copy && place && { ...copy, place };
+  const barcode = third === undefined ? null : firstOf(LABEL, third) ?? undefined;
+  return copy && place && barcode !== undefined ? { ...copy, place, barcode } : null;
 }
 
 const TITLE = [[`title ${NUMBER} ${TEXT}`, ([title, text]) => ({ title: Number(title), text })]];
 const DEBTOR = [[`patron ${NUMBER} owed ${NUMBER} name ${TEXT}`, ([patron, owed, name]) => ({ patron: Number(patron), owed: Number(owed), name })]];
-const charge = ([line, day, sort, amount, loan, title, text]) => ({ line: Number(line), day, sort, amount: Number(amount), loan: Number(loan), title: Number(title), text });
+// A line of an account: where it was made, and the title or what a charge is for, as far as these are told.
+const lineOf = (line, day, sort, amount, { branch = null, text = null, ...of } = {}) => ({ line: Number(line), day, sort, amount: Number(amount), branch: branch && Number(branch), text, ...of });
 const columns = (...names) => new RegExp(`^${BLANKS}${names.join(" +")} +title$`);
 
 // The heads and the rows of the lists by the question that they answer; a head is one line or none.
@@ -58,8 +62,11 @@ const LISTS = {
   account: {
     head: DEBTOR,
     rows: [
-      [`line ${NUMBER} ${DAY} (fine|price) ${NUMBER} loan ${NUMBER} title ${NUMBER} ${TEXT}`, charge],
-      [`line ${NUMBER} ${DAY} (payment|waiver) ${NUMBER}`, ([line, day, sort, amount]) => ({ line: Number(line), day, sort, amount: Number(amount), text: null })],
+      [`line ${NUMBER} ${DAY} (fine|price) ${NUMBER} loan ${NUMBER} title ${NUMBER} ${TEXT}`,
+        ([line, day, sort, amount, loan, title, text]) => lineOf(line, day, sort, amount, { text, loan: Number(loan), title: Number(title) })],
+      [`line ${NUMBER} ${DAY} (payment|waiver) ${NUMBER}`, (found) => lineOf(...found)],
+      [`line ${NUMBER} ${DAY} (payment) ${NUMBER} at ${NUMBER}`, ([line, day, sort, amount, branch]) => lineOf(line, day, sort, amount, { branch })],
+      [`line ${NUMBER} ${DAY} (charge) ${NUMBER} at ${NUMBER} for ${TEXT}`, ([line, day, sort, amount, branch, text]) => lineOf(line, day, sort, amount, { branch, text })],
     ],
   },
   debts: { head: null, rows: DEBTOR },
@@ -124,17 +131,22 @@ function readHead(head, line) {
   return head instanceof RegExp ? head.test(line) || null : firstOf(head, line);
 }
 
-function readTill(lines) {
-  const [first, ...sums] = lines;
-  const day = firstOf([[`till ${DAY}`, ([found]) => found]], first);
-  const rows = sums.map((line) => firstOf([[`(fines|prices|payments|waivers) +${NUMBER}`, ([sort, amount]) => ({ sort, amount: Number(amount) })]], line));
-  return day !== null && rows.length === 4 && !rows.includes(null) ? { head: { day }, rows, after: null } : null;
+// The tills, that of all branches and that of one: their heads, and which sums they have. Charges are summed for all branches on days on which one was made.
+const TILLS = {
+  "till": { head: [[`till ${DAY}`, ([day]) => ({ day })]], sums: ["fines prices payments waivers", "fines prices payments waivers charges"] },
+  "till-at": { head: [[`till ${DAY} at ${NUMBER}`, ([day, branch]) => ({ day, branch: Number(branch) })]], sums: ["payments charges"] },
+};
+
+function readTill({ head, sums }, [first, ...lines]) {
+  const found = firstOf(head, first);
+  const rows = lines.map((line) => firstOf([[`([a-z]+) +${NUMBER}`, ([sort, amount]) => ({ sort, amount: Number(amount) })]], line));
+  return found && sums.includes(rows.map((row) => row?.sort).join(" ")) ? { head: found, rows, after: null } : null;
 }
 
 // What a question that is answered by a list was told: its head, its rows, and from where to ask on; null where the text is no such list.
 export function readList(question, text) {
   const lines = text.split("\n");
-  if (question === "till") return readTill(lines);
+  if (Object.hasOwn(TILLS, question)) return readTill(TILLS[question], lines);
   const list = LISTS[question];
   const head = list.head ? readHead(list.head, lines.shift()) : true;
   const after = readEnd(lines.pop());

@@ -12,6 +12,8 @@ export class Queue {
     this.current = null;
     this.held = left.held ?? null;
     this.isStopped = left.isStopped ?? false;
+    // what stopped the queue and isn't to be sent again here
+    this.refused = null;
     this.stoppedAt = -Infinity;
     this.waiting = [...(left.current ? [left.current] : []), ...(left.waiting ?? [])];
   }
@@ -57,12 +59,26 @@ export class Queue {
     this.sendOn();
   }
 
-  // Nothing more is sent, shown or kept; an answer that still comes changes nothing.
+  // Nothing more is sent, shown or kept.
   end() {
+    this.kept([]);
+    this.close();
+  }
+
+  // Nothing more is sent or shown, and what waits stays kept, with what stopped the queue before it; whether anything does.
+  leave() {
+    if (this.isStopped && this.refused !== null) this.waiting.unshift(this.refused);
+    const isKept = !this.isEmpty;
+    this.keep();
+    this.close();
+    return isKept;
+  }
+
+  // An answer that still comes changes nothing.
+  close() {
     this.waiting = [];
     this.held = null;
     this.isStopped = true;
-    this.kept([]);
     this.changed = () => {};
     this.keep = () => {};
     this.storage.removeItem(this.name);
@@ -89,6 +105,7 @@ export class Queue {
     } finally {
       this.isStopped ||= outcome === "stop" || outcome === "again" || (outcome === "told" && this.waiting.length > 0);
       this.held = outcome === "again" ? this.current : null;
+      this.refused = this.isStopped && outcome !== "again" ? this.current : null;
       this.stoppedAt = performance.now();
       this.current = null;
     }

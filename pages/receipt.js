@@ -1,4 +1,4 @@
-// The receipt of a patron's visit: what was lent, renewed, paid and held for this patron, and nothing else.
+// The receipt of a patron's visit: what was lent, renewed, paid, charged and held for this patron, and nothing else.
 
 import { TEXTS, amount, branchName, say } from "./texts.js";
 
@@ -15,15 +15,28 @@ export function receiptEnd({ owed }) {
   return owed === 0 ? TEXTS.owesNothing : say(TEXTS.owes, { owed: amount(owed) });
 }
 
+const OF_PATRON = ["check-out", "pay", "pay-at", "waive", "charge", "place-hold", "place-hold-from", "card-key", "patron-barcode", "amend-patron"];
+
 // The patron whom words are for, as they say; a renewal names none.
 export function patronOf(words) {
-  return ["check-out", "pay", "waive", "place-hold", "place-hold-from", "card-key", "amend-patron"].includes(words[0]) ? Number(words[1]) : null;
+  return OF_PATRON.includes(words[0]) ? Number(words[1]) : null;
 }
 
 function heldRow(hold, page) {
   const held = page?.holds.find((it) => it.hold === hold);
   if (!held) return say(TEXTS.heldNow, { hold });
   return say(held.from ? TEXTS.receiptHeldFrom : TEXTS.receiptHeld, { ...held, branch: branchName(held.branch) });
+}
+
+// What was paid or charged, at which counter, and what a charge is for; what is waived stands in the account alone.
+function moneyRow([command, , cents, branch, text], owed) {
+  const [money, at] = [amount(Number(cents)), branchName(branch)];
+  switch (command) {
+    case "pay": return say(TEXTS.receiptPaid, { paid: money, owed });
+    case "pay-at": return say(TEXTS.receiptPaidAt, { paid: money, branch: at, owed });
+    case "charge": return say(TEXTS.receiptCharged, { text, charged: money, branch: at, owed });
+    default: return null;
+  }
 }
 
 // The row that accepted words add to the receipt of a patron, whose page came after them; null where they add none, as another's do.
@@ -33,5 +46,5 @@ export function receiptRow(patron, words, reply, page) {
   if (patronOf(words) !== patron) return null;
   if (reply.kind === "lent") return loan ? say(TEXTS.receiptLent, { text: loan.text, due: reply.due }) : say(TEXTS.lent, reply);
   if (reply.kind === "held") return heldRow(reply.hold, page);
-  return words[0] === "pay" ? say(TEXTS.receiptPaid, { paid: amount(Number(words[2])), owed: amount(reply.owed) }) : null;
+  return reply.kind === "owed" ? moneyRow(words, amount(reply.owed)) : null;
 }

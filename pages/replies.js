@@ -1,6 +1,6 @@
 // What the desk answers, read from its lines. tests/gate/pages.mjs tries every form.
 
-import { DAY, NUMBER, TEXT, firstOf } from "./forms.js";
+import { BARCODE, DAY, NUMBER, TEXT, firstOf } from "./forms.js";
 
 const PLACES = [
   [`shelf ${NUMBER}`, ([branch]) => ({ to: "shelf", branch: Number(branch) })],
@@ -21,8 +21,9 @@ const REPLIES = [
   [`fine ${NUMBER} ${TEXT}`, ([fine, place]) => ({ kind: "checked in", fine: Number(fine), place: readPlace(place) })],
   [`owed ${NUMBER}`, ([owed]) => ({ kind: "owed", owed: Number(owed) })],
   [`today ${DAY}`, ([day]) => ({ kind: "day", day })],
-  [`patron ${NUMBER} owed ${NUMBER} name ${TEXT}\\nkind ${NUMBER}`,
-    ([patron, owed, name, patronKind]) => ({ kind: "borrower", patron: Number(patron), owed: Number(owed), name, patronKind: Number(patronKind) })],
+  [`patron ${NUMBER} owed ${NUMBER} name ${TEXT}\\nkind ${NUMBER}(?:\\nbarcode ${BARCODE})?`,
+    ([patron, owed, name, patronKind, barcode = null]) => ({ kind: "borrower", patron: Number(patron), owed: Number(owed), name, patronKind: Number(patronKind), barcode })],
+  [`(copy|patron) ${NUMBER}`, ([of, number]) => ({ kind: "found", of, number: Number(number) })],
 ];
 
 const LINES = [
@@ -37,7 +38,7 @@ const LINES = [
 ];
 
 // What a question of the desk is answered: a copy, a list to its end or to the number from which it goes on, which a search may show without a row, or the sums of a day.
-const SHOWN = [`copy ${NUMBER} home [^\\n]+\\n[^\\n]+`, "(?:[^]+\\n)?end", `(?:[^]+\\n)?after ${NUMBER}`, `till ${DAY}\\n[^]+`].map((form) => [form, () => true]);
+const SHOWN = [`copy ${NUMBER} home [^\\n]+\\n[^\\n]+(?:\\nbarcode ${BARCODE})?`, "(?:[^]+\\n)?end", `(?:[^]+\\n)?after ${NUMBER}`, `till ${DAY}(?: at ${NUMBER})?\\n[^]+`].map((form) => [form, () => true]);
 
 // A patron's page, or null where the text is none.
 export function readPage(text) {
@@ -84,4 +85,12 @@ export function readAnswer(status, body) {
   if (status === 503 && Number.isInteger(told.fault)) return { fault: told.fault };
   if ([400, 404, 405, 413].includes(status) && told.status === status) return { status };
   return { strange: status };
+}
+
+const NOBODYS = 18;
+
+// Whose a barcode is by the answer: null where it is nobody's, and undefined where that isn't told.
+export function foundBy(answer) {
+  if (answer.reply?.kind === "found") return answer.reply;
+  return answer.refusal === NOBODYS ? null : undefined;
 }

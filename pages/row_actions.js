@@ -14,6 +14,13 @@ const account = (patron) => shows(TEXTS.doAccount, "account", patron);
 const waive = ({ patron, owed }) => fills(TEXTS.doWaive, "waive", { patron, amount: amount(owed) });
 const amendPatron = ({ patron, name }) => fills(TEXTS.doAmend, "amend-patron", { patron, name });
 const newCardKey = ({ patron }) => fills(TEXTS.doCardKey, "card-key", { patron });
+const charge = ({ patron }) => fills(TEXTS.doCharge, "charge", { patron });
+const newBarcode = (command, values) => fills(TEXTS.doBarcode, command, values);
+const dropBarcode = (barcode, of) => (barcode === null ? [] : [sends(TEXTS.doDropBarcode, ["drop-barcode", barcode], of)]);
+const patronDetails = (patron) => shows(TEXTS.doDetails, "borrower", patron);
+
+// What can be done with a patron, whoever shows the patron.
+const ofPatron = (row) => [account(row.patron), charge(row), amendPatron(row), newCardKey(row), newBarcode("patron-barcode", { patron: row.patron })];
 
 // What can be done with a copy by where it is.
 function ofCopy({ copy, place }) {
@@ -29,12 +36,13 @@ const OF_ROWS = {
   shelf: ({ hold, patron, text, until }, { day }) => [
     day !== null && until < day ? sends(TEXTS.unshelve, ["unshelve", hold]) : sends(TEXTS.cancel, ["unshelve-cancelled", hold], { patron, text })],
   debts: (row) => [serves(TEXTS.pay, row.patron, "pay"), waive(row), account(row.patron)],
-  "find-patrons": (row) => [serves(TEXTS.doServe, row.patron, "check-out"), account(row.patron), amendPatron(row), newCardKey(row)],
+  "find-patrons": (row) => [serves(TEXTS.doServe, row.patron, "check-out"), ...ofPatron(row), patronDetails(row.patron)],
+  borrower: (row) => [serves(TEXTS.doServe, row.patron, "check-out"), ...ofPatron(row), ...dropBarcode(row.barcode, { patron: row.patron })],
   "find-titles": ({ title, text }) => [
     shows(TEXTS.doCopies, "copies", title), shows(TEXTS.doQueue, "queue", title), fills(TEXTS.doAmend, "amend-title", { title, text }), fills(TEXTS.doAcquire, "acquire", { title, text })],
   copy: (row) => [
     ...ofCopy(row), fills(TEXTS.doAmend, "amend-copy", { copy: row.copy, kind: row.kind, price: amount(row.price) }), fills(TEXTS.doRehome, "rehome", { copy: row.copy, branch: row.home }),
-    shows(TEXTS.doLoans, "loans", row.copy)],
+    newBarcode("copy-barcode", { copy: row.copy }), ...dropBarcode(row.barcode, { copy: row.copy }), shows(TEXTS.doLoans, "loans", row.copy)],
   copies: (row) => [...ofCopy(row), shows(TEXTS.doDetails, "copy", row.copy)],
   queue: ({ hold, patron }, { head }) => [sends(TEXTS.cancel, ["cancel-hold", hold], { patron, text: head.text })],
   "missing-copies": ({ copy }) => [withdraw(copy)],
@@ -59,5 +67,5 @@ export function actionsOfHold({ hold, state, text }, { name }) {
 }
 
 export function actionsOfPatron(page) {
-  return [...(page.owed > 0 ? [serves(TEXTS.pay, page.patron, "pay"), waive(page)] : []), account(page.patron), amendPatron(page), newCardKey(page)];
+  return [...(page.owed > 0 ? [serves(TEXTS.pay, page.patron, "pay"), waive(page)] : []), ...ofPatron(page), patronDetails(page.patron)];
 }

@@ -23,6 +23,11 @@ export function placeOf(found, name) {
   }
 }
 
+function saidOfBorrower(reply) {
+  const told = say(TEXTS.borrowerIs, { ...reply, owed: amount(reply.owed) });
+  return reply.barcode === null ? told : say(TEXTS.withBarcode, { told, barcode: reply.barcode });
+}
+
 // What a reply says; of a copy that comes in, with the name of the patron whose turn it is.
 export function said(reply, name) {
   switch (reply.kind) {
@@ -36,7 +41,8 @@ export function said(reply, name) {
     case "page":
       return say(TEXTS.pageOf, { patron: reply.patron, name: reply.name, loans: reply.loans.length, holds: reply.holds.length, owed: amount(reply.owed) });
     case "day": return say(TEXTS.todayIs, reply);
-    case "borrower": return say(TEXTS.borrowerIs, { ...reply, owed: amount(reply.owed) });
+    case "borrower": return saidOfBorrower(reply);
+    case "found": return say(TEXTS.barcodeOf, { what: say(reply.of === "copy" ? TEXTS.aCopy : TEXTS.aPatron, reply) });
     case "shown": return reply.lines[0];
     default: return TEXTS.done;
   }
@@ -55,9 +61,15 @@ function saidWithPlace(words, reply, name, copy) {
   return words[0] === "rehome" && copy ? `${said(reply)} ${whereIs(copy.place)}` : said(reply, name);
 }
 
+// What a patron owes after words; of a charge, with what it is for.
+function saidOfOwed([command, , charged, , text], { owed }, name) {
+  if (command === "charge") return say(TEXTS.chargedFor, { name, text, charged: amount(Number(charged)), owed: amount(owed) });
+  return say(TEXTS.owesNow, { name, owed: amount(owed) });
+}
+
 // What is said in one sentence of a title and a patron; null where one of them isn't known, or there is no such sentence.
 function saidOfBoth(words, reply, { text, name }) {
-  if (reply.kind === "owed" && name) return say(TEXTS.owesNow, { name, owed: amount(reply.owed) });
+  if (reply.kind === "owed" && name) return saidOfOwed(words, reply, name);
   if (!text || !name) return null;
   if (reply.kind === "lent") return say(words[0] === "renew" ? TEXTS.renewedFor : TEXTS.lentTo, { ...reply, text, name });
   return reply.kind === "held" ? say(TEXTS.heldFor, { ...reply, text, name }) : null;
@@ -127,10 +139,10 @@ export function shownWords(words) {
 
 export function labelOf(item) {
   const number = item.kind === "amount" ? amount(item.number) : item.number;
-  if (item.kind === "wrong") return item.text;
   if (item.kind === "words") return shownWords(item.words);
-  const what = { patron: TEXTS.aPatron, copy: TEXTS.aCopy, title: TEXTS.aTitle, amount: TEXTS.anAmount }[item.kind];
-  return say(item.patron === null ? what : TEXTS.forPatron, { what: say(what, { number }), number, patron: item.patron });
+  const texts = { patron: TEXTS.aPatron, copy: TEXTS.aCopy, title: TEXTS.aTitle, amount: TEXTS.anAmount };
+  const what = item.kind === "wrong" ? item.text : say(texts[item.kind], { number });
+  return item.kind === "patron" || item.patron === null ? what : say(TEXTS.forPatron, { what, patron: item.patron });
 }
 
 // What the clerk is asked before an item is sent, and what the buttons say by which it is sent then or isn't; with the name of its patron, where it is known.

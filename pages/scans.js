@@ -2,7 +2,7 @@
 
 import { centsOf, isNumber } from "./commands.js";
 import { today } from "./days.js";
-import { PREFIXES, TEXTS, say } from "./texts.js";
+import { MEANINGS, PREFIXES, TEXTS, say } from "./texts.js";
 
 // The scans of a text that came at once: they are parted by ends of lines and tabs.
 export function scansIn(text) {
@@ -58,19 +58,39 @@ export function nameOf(kind) {
   return { patron: TEXTS.theCard, copy: TEXTS.theCopy, title: TEXTS.theTitle, amount: TEXTS.theAmount }[kind];
 }
 
+// What is wrong with a scan as this kind; null where nothing is.
 function problemOf(kind, text, { of, number }) {
   if (of !== null && of !== kind) return say(TEXTS.otherScanned, { is: nameOf(of), wanted: nameOf(kind) });
   const isRight = kind === "amount" ? centsOf(text) !== null : isNumber(number);
   return isRight ? null : say(TEXTS.wrongForm, { what: kind === "amount" ? TEXTS.amountForm : TEXTS.numberForm });
 }
 
-// What is to be done with a scan; `wrong`, with what is wrong with it, where nothing can be.
-export function itemOf(mode, patron, text, prefixes = PREFIXES) {
-  const kind = wanted(mode, patron);
-  const scan = cut(text, prefixes);
+// What a scan is to be: a card is its patron's in each mode but check-in, which serves nobody; whatever else is what is wanted.
+const kindOf = (mode, patron, of) => (of === "patron" && mode !== "check-in" ? "patron" : wanted(mode, patron));
+
+// What is to be done with a scan, by whose barcode or prefix it is, and by what is wanted where it is neither; `wrong`, with what is wrong with it, where nothing can be. `patron` is
+// the one for whom it is scanned where it is no card: null for nobody yet.
+export function itemOf(mode, patron, text, scan = cut(text)) {
+  const kind = kindOf(mode, patron, scan.of);
+  const whose = needsPatron(mode) ? patron : null;
   const problem = problemOf(kind, text, scan);
-  if (problem) return { kind: "wrong", text, problem };
-  return { kind, mode, patron: needsPatron(mode) ? patron : null, number: kind === "amount" ? centsOf(text) : Number(scan.number) };
+  if (problem) return { kind: "wrong", mode, patron: whose, text, problem };
+  return { kind, mode, patron: whose, text, number: kind === "amount" ? centsOf(text) : Number(scan.number) };
+}
+
+// The number of a patron's own card, which stands there with its prefix or without; or what is wrong with it. Whose a barcode is is told to the desk alone.
+export function ownNumber(text) {
+  const scan = cut(text);
+  const problem = problemOf("patron", text, scan);
+  if (problem === null) return { number: scan.number };
+  return { problem: scan.of === "copy" ? problem : say(TEXTS.wrongForm, { what: TEXTS.ownNumberForm }) };
+}
+
+// What is to be done with a scan once it is known whose barcode it is, which is null for nobody's.
+export function itemFound(mode, patron, text, found) {
+  if (found !== null) return itemOf(mode, patron, text, { of: found.of, number: String(found.number) });
+  const item = itemOf(mode, patron, text);
+  return item.kind === "wrong" && !isNumber(cut(text).number) ? { ...item, problem: MEANINGS[18] } : item;
 }
 
 // The words by which an item is sent.
@@ -79,7 +99,7 @@ export function wordsOfItem({ kind, mode, number, patron }, branch) {
   return {
     "check-out": ["check-out", patron, number, branch],
     "check-in": ["check-in", number, branch],
-    "pay": ["pay", patron, number],
+    "pay": ["pay-at", patron, number, branch],
     "place-hold": ["place-hold", patron, number, branch],
   }[mode];
 }

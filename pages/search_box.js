@@ -1,6 +1,7 @@
 // The list below the line for scans of what is found by the letters that stand in it: the arrow keys go through it, and Enter takes what is chosen.
 
 import { plain, write } from "./isolating.js";
+import { isBarcode } from "./commands.js";
 import { saidNo } from "./saying.js";
 import { cut } from "./scans.js";
 import { it } from "./screen.js";
@@ -95,21 +96,33 @@ export class SearchBox {
     }
     it("scan").value = "";
     this.search.end();
-    this.take(String(row.patron ?? row.title));
+    this.take(row.patron ?? row.title);
   }
 
-  // Whether the end of a scan is one of a search: it takes what is chosen, or else searches at once, and what is typed next takes the place of the letters.
+  // Whether the end of a scan is one of a search: it takes what is chosen, or else searches at once, and what is typed next takes the place of the letters. What may be a barcode is
+  // a scan first, unless somebody waited until something was found by it.
   enter(text) {
     if (this.place !== -1) {
       this.choose(this.options[this.place]);
       return true;
     }
+    const isFound = this.search.found.text === text.trim();
     const question = this.questionOf(text);
-    if (question === null) {
+    if (question === null || (isBarcode(text.trim()) && !isFound)) {
       this.search.end();
       return false;
     }
-    if (this.search.found.text !== text.trim()) this.search.now(question, text.trim());
+    if (!isFound) this.search.now(question, text.trim());
+    it("scan").select();
+    return true;
+  }
+
+  // Searches for letters that were a scan first; whether the line was free for them.
+  seek(text) {
+    const question = this.questionOf(text);
+    if (it("scan").value !== "" || question === null) return false;
+    it("scan").value = text;
+    this.search.now(question, text);
     it("scan").select();
     return true;
   }

@@ -5,6 +5,7 @@ import { newKey } from "./asking.js";
 import { onlyAsk } from "./commands.js";
 import { readCopy, readList } from "./questions.js";
 import { newReceipt, receiptRow } from "./receipt.js";
+import { foundBy } from "./replies.js";
 import { isSpecial, said, saidFully, saidNo, shownWords, whereIs } from "./saying.js";
 import { slipOf } from "./slips.js";
 import { TEXTS, amount, say } from "./texts.js";
@@ -48,12 +49,22 @@ export class Service {
     this.screen.visit(this.visit);
   }
 
-  // Lets a patron in whose page comes.
-  async open(patron, key) {
+  // Whose a barcode is: `found`, which is null where it is nobody's; or else how it ended.
+  async findBarcode(barcode) {
+    const words = ["find-barcode", barcode];
+    const answer = await this.asked(words, newKey());
+    const found = answer === null ? undefined : foundBy(answer);
+    if (found !== undefined) return { found };
+    return { outcome: await this.failed(words, answer?.reply ? { strange: 200 } : answer) };
+  }
+
+  // Lets a patron in whose page comes; a card that is scanned again in its turn goes on with its receipt.
+  async open(patron, key, turn) {
     const words = ["page", patron];
     const answer = await this.asked(words, key);
     if (answer?.reply?.kind !== "page") return this.failed(words, answer?.reply ? { strange: 200 } : answer);
-    this.visit = { page: answer.reply, receipt: newReceipt(answer.reply, this.day.now, this.branch), untils: {} };
+    const isAgain = this.visit?.turn === turn && this.visit.page.patron === patron;
+    this.visit = isAgain ? { ...this.visit, page: answer.reply } : { page: answer.reply, turn, receipt: newReceipt(answer.reply, this.day.now, this.branch), untils: {} };
     this.showVisit();
     this.screen.told(said(answer.reply));
     this.screen.noted(shownWords(words), said(answer.reply), []);
@@ -84,7 +95,8 @@ export class Service {
   async know(words) {
     const answer = await this.asked(words, newKey());
     const copy = answer?.reply && readCopy(answer.text);
-    if (copy || answer?.reply?.kind === "borrower") return knownBy(copy, answer.reply.kind === "borrower" ? answer.reply : null);
+    const known = answer?.reply && knownBy(copy, answer.reply);
+    if (known) return known;
     await this.failed(words, answer?.reply ? { strange: 200 } : answer);
     return null;
   }
@@ -150,7 +162,7 @@ export class Service {
 
   // The copy that was moved, and the page of the patron at the desk: any words that do more than ask may have changed it.
   async look(words, reply, { shelved, lent }) {
-    const moved = ["check-in", "missing", "withdraw", "amend-copy", "rehome"].includes(words[0]) ? words[1] : shelved;
+    const moved = ["check-in", "missing", "withdraw", "amend-copy", "rehome", "copy-barcode"].includes(words[0]) ? words[1] : shelved;
     const copy = moved === undefined ? {} : await this.lookAtCopy(moved, said(reply));
     const ended = lent && copy.copy && copy.copy.place.loan !== lent.loan ? lent : null;
     const debtor = reply.fine > 0 || reply.price > 0 ? await this.lookForDebtor(words[1], said(reply), ended) : {};

@@ -12,12 +12,14 @@ const where = ({ place }) => whereIs(place);
 const weekdays = TEXTS.weekdays.split(" ");
 const closed = ({ week }) => weekdays.filter((_, at) => week[at] === "c").join(", ");
 const sorts = {
-  fine: TEXTS.sortFine, price: TEXTS.sortPrice, payment: TEXTS.sortPayment, waiver: TEXTS.sortWaiver,
-  fines: TEXTS.sumFines, prices: TEXTS.sumPrices, payments: TEXTS.sumPayments, waivers: TEXTS.sumWaivers,
+  fine: TEXTS.sortFine, price: TEXTS.sortPrice, payment: TEXTS.sortPayment, waiver: TEXTS.sortWaiver, charge: TEXTS.sortCharge,
+  fines: TEXTS.sumFines, prices: TEXTS.sumPrices, payments: TEXTS.sumPayments, waivers: TEXTS.sumWaivers, charges: TEXTS.sumCharges,
 };
 const sort = (row) => sorts[row.sort];
+const sortAt = (row) => (row.branch === null ? sort(row) : say(TEXTS.sortAt, { sort: sort(row), branch: branchName(row.branch) }));
 
 const [copy, hold, patron, title] = [[TEXTS.colCopy, whole("copy")], [TEXTS.colHold, orNone("hold")], [TEXTS.colPatron, whole("patron")], [TEXTS.colTitle, free("text")]];
+const barcode = [TEXTS.colBarcode, orNone("barcode")];
 
 // Of each question its head, and its columns with what stands in them of a row.
 const TABLES = {
@@ -26,14 +28,16 @@ const TABLES = {
   overdue: { head: TEXTS.overdue, columns: [[TEXTS.colLoan, whole("loan")], patron, copy, [TEXTS.colDue, whole("due")], [TEXTS.colLate, whole("late")], title] },
   transits: { head: TEXTS.transits, columns: [copy, title, hold] },
   till: { head: TEXTS.tillOf, columns: [[TEXTS.colSum, sort], [TEXTS.colAmount, money("amount")]] },
-  debts: { head: TEXTS.debts, columns: [patron, [TEXTS.colName, free("name")], [TEXTS.colOwed, money("owed")]] },
+  "till-at": { head: TEXTS.tillAtOf, columns: [[TEXTS.colSum, sort], [TEXTS.colAmount, money("amount")]] },
+  debts: { head: TEXTS.debtsOf, columns: [patron, [TEXTS.colName, free("name")], [TEXTS.colOwed, money("owed")]] },
   "find-patrons": { head: TEXTS.foundPatrons, columns: [patron, [TEXTS.colName, free("name")], [TEXTS.colOwed, money("owed")]] },
   "find-titles": { head: TEXTS.foundTitles, columns: [[TEXTS.colTitleNumber, whole("title")], title] },
   account: {
     head: TEXTS.accountOf,
-    columns: [[TEXTS.colLine, whole("line")], [TEXTS.colDay, whole("day")], [TEXTS.colSort, sort], [TEXTS.colAmount, money("amount")], title],
+    columns: [[TEXTS.colLine, whole("line")], [TEXTS.colDay, whole("day")], [TEXTS.colSort, sortAt], [TEXTS.colAmount, money("amount")], [TEXTS.colFor, free("text")]],
   },
-  copy: { head: TEXTS.copyOf, columns: [copy, title, [TEXTS.colTitleNumber, whole("title")], [TEXTS.colHome, ({ home }) => branchName(home)], [TEXTS.colPrice, money("price")], [TEXTS.colPlace, where]] },
+  borrower: { head: TEXTS.borrowerOf, columns: [patron, [TEXTS.colName, free("name")], [TEXTS.colOwed, money("owed")], [TEXTS.colKind, whole("patronKind")], barcode] },
+  copy: { head: TEXTS.copyOf, columns: [copy, title, [TEXTS.colTitleNumber, whole("title")], [TEXTS.colHome, ({ home }) => branchName(home)], [TEXTS.colPrice, money("price")], [TEXTS.colPlace, where], barcode] },
   copies: { head: TEXTS.copiesOf, columns: [copy, [TEXTS.colPlace, where]] },
   "missing-copies": { head: TEXTS.missingCopies, columns: [copy, title, [TEXTS.colTitleNumber, whole("title")], [TEXTS.colHome, ({ home }) => branchName(home)]] },
   loans: { head: TEXTS.loansOf, columns: [[TEXTS.colLoan, whole("loan")], patron, [TEXTS.colMade, whole("made")], [TEXTS.colDue, whole("due")], [TEXTS.colEnded, orNone("ended")]] },
@@ -47,10 +51,18 @@ const TABLES = {
   queue: { head: TEXTS.queueOf, columns: [hold, patron, [TEXTS.colPickUp, ({ branch }) => branchName(branch)], [TEXTS.colFrom, orNone("from")]] },
 };
 
+// How what a head tells is shown.
+const SHOWN = { owed: amount, branch: (branch) => branchName(branch) };
+
+// The lists of one branch; all others are of the whole town.
+const OF_BRANCH = ["pulls", "shelf", "overdue", "transits", "till-at"];
+
+export const isOfBranch = (question) => OF_BRANCH.includes(question);
+
 // The head of a table, the names of its columns and the cells of its rows, of a list as it was read.
 export function tableOf(question, { head, rows }) {
   const { head: text, columns } = TABLES[question];
-  const told = head && "owed" in head ? { ...head, owed: amount(head.owed) } : head ?? {};
+  const told = Object.fromEntries(Object.entries(head ?? {}).map(([name, value]) => [name, SHOWN[name]?.(value) ?? value]));
   return { head: say(text, told), columns: columns.map(([name]) => name), rows: rows.map((row) => columns.map(([, cell]) => cell(row))) };
 }
 
@@ -67,14 +79,15 @@ function isSearch(question) {
 // What is told above a list that has no head of its own, of what was asked about.
 export function headOf(question, about) {
   if (isSearch(question)) return { sought: about };
-  if (question === "closed-days") return { branch: branchName(about) };
+  if (question === "closed-days") return { branch: about };
   if (question === "loans") return { copy: about };
   return question === "rules" ? { kind: about } : null;
 }
 
-// The words of a question about a branch, a number, a day or a text, from a number on.
-export function wordsOfQuestion(question, about, after) {
+// The words of a question about a branch, a number, a day or a text, from a number on; the till of one branch is that of the desk's.
+export function wordsOfQuestion(question, about, after, branch) {
   if (isSearch(question)) return [question, after, about];
-  if (question === "copy" || question === "till") return [question, about];
+  if (question === "till-at") return [question, branch, about];
+  if (["copy", "borrower", "till"].includes(question)) return [question, about];
   return ["debts", "branches", "kinds", "missing-copies"].includes(question) ? [question, after] : [question, about, after];
 }

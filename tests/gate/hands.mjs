@@ -10,7 +10,7 @@ import { LibraryDay } from "../../pages/library_day.js";
 import { Papers } from "../../pages/papers.js";
 import { receiptEnd, receiptHead, receiptRow } from "../../pages/receipt.js";
 import { labelOf } from "../../pages/saying.js";
-import { beginsScan, cut, endsScan, itemOf, needsConfirming, scansIn, wanted } from "../../pages/scans.js";
+import { beginsScan, cut, endsScan, itemOf, needsConfirming, ownNumber, scansIn, wanted } from "../../pages/scans.js";
 import { slipLines } from "../../pages/slips.js";
 import { SignedIn } from "../../pages/signed_in.js";
 import { TEXTS } from "../../pages/texts.js";
@@ -43,7 +43,7 @@ function turns(acts, asked = {}) {
 // A desk of branch 1 in a tab, and what its screen was told.
 function desk(storage = new Kept(), day = { now: dayOf, look: async () => {}, begun() {} }, kept = () => {}, lendsAlone = false) {
   const leaving = new AbortController();
-  const told = [], noted = [], receipts = [], slips = [], special = [], ended = [];
+  const told = [], noted = [], receipts = [], slips = [], special = [], ended = [], sought = [];
   let unknown = 0, waiting = [], wanted = null, shown = null;
   const ask = (words, requestKey, text) => askUntilAnswered(
     { method: "POST", path: "/desk", keyField: "Desk-Key", keyValue: "deskkey00001", requestKey, body: JSON.stringify(words) },
@@ -57,13 +57,14 @@ function desk(storage = new Kept(), day = { now: dayOf, look: async () => {}, be
     noted: (what, text) => noted.push(plain(`${what}: ${text}`)),
     waiting: (queue) => { waiting = queue.waiting.map(labelOf).map(plain); },
     wanted: (patron) => { wanted = patron; },
+    sought: (text) => work.expected === null && sought.push(text) > 0,
     slip: (slip) => slips.push(slipLines(slip).map(plain)),
     visit: (visit) => { shown = visit; if (visit) receipts.push([receiptHead(visit.receipt), ...visit.receipt.rows].map(plain)); },
     nobody: () => { noted.length = 0; },
     ended: (words, refusal) => ended.push([words.join(" "), refusal]),
   };
   const work = new Work({ branch: "1", ask, screen, storage, day, lendsAlone, kept });
-  return { work, told, noted, receipts, slips, special, ended, storage, leaving, unknown: () => unknown, waiting: () => waiting, wanted: () => wanted, shown: () => shown };
+  return { work, told, noted, receipts, slips, special, ended, sought, storage, leaving, unknown: () => unknown, waiting: () => waiting, wanted: () => wanted, shown: () => shown };
 }
 
 async function until(holds) {
@@ -76,8 +77,8 @@ async function until(holds) {
 
 const isQuiet = ({ work: { queue } }) => queue.current === null && (queue.isStopped || queue.waiting.length === 0);
 const bodies = (sent) => sent.map(([, , , body]) => JSON.parse(body).join(" "));
-const acts = (sent) => bodies(sent).filter((words) => !/^(page|copy|shelf|loans|borrower) /.test(words));
-const keysOf = (sent) => sent.filter(([, , , body]) => !/^\["(page|copy|shelf|loans|borrower)"/.test(body)).map(([, key]) => key);
+const acts = (sent) => bodies(sent).filter((words) => !/^(page|copy|shelf|loans|borrower|find-barcode) /.test(words));
+const keysOf = (sent) => sent.filter(([, , , body]) => !/^\["(page|copy|shelf|loans|borrower|find-barcode)"/.test(body)).map(([, key]) => key);
 const dayOf = today();
 
 // ---- a card and two copies, before the first answer comes: three requests, in order, none glued to another
@@ -234,6 +235,7 @@ it.work.queue.throwAway();
 sent = network([[60_000]]);
 it.work.scan("check-in", "1");
 it.work.words(["patron", "7", "1", "cardkey00007", "Gil Hay"]);
+await until(() => sent.length === 1);
 is([it.waiting(), JSON.stringify([...it.storage.all]).includes("cardkey00007")], [["patron 7 1 … Gil Hay"], false]);
 const later = desk(it.storage);
 sent = network(turns([reply("fine 0 shelf 1")]));
@@ -251,18 +253,149 @@ is(["LIB4", "L31", "P4"].map((text) => cut(text, { patron: "LIB", copy: "L" }).o
 is(cut("P4", { patron: "", copy: "" }), { of: null, number: "P4" });
 is([itemOf("check-out", null, "P4"), itemOf("check-out", 4, "C31"), itemOf("check-in", null, "31")].map(({ kind, number, patron }) => [kind, number, patron]),
   [["patron", 4, null], ["copy", 31, 4], ["copy", 31, null]]);
-is([["check-out", 4, "P5"], ["check-in", null, "P5"], ["check-out", null, "C31"], ["pay", 4, "P5"], ["place-hold", 4, "C31"]].map((asked) => itemOf(...asked).problem), [
-  "This is a patron's card, but a copy is expected.", "This is a patron's card, but a copy is expected.", "This is a copy, but a patron's card is expected.",
-  "This is a patron's card, but an amount is expected.", "This is a copy, but a title number is expected."]);
+is([["check-in", null, "P5"], ["check-out", null, "C31"], ["pay", 4, "C31"], ["place-hold", 4, "C31"]].map((asked) => itemOf(...asked).problem), [
+  "This is a patron's card, but a copy is expected.", "This is a copy, but a patron's card is expected.", "This is a copy, but an amount is expected.", "This is a copy, but a title number is expected."]);
+// a patron types the number of the own card with its prefix or without it; a barcode, which the desk alone can read, is told as one
+is(["4", "P4", "p9999999"].map((text) => ownNumber(text)), [{ number: "4" }, { number: "4" }, { number: "9999999" }]);
+is(["C4", "20000000000004", "P04", ""].map((text) => ownNumber(text).problem), ["This is a copy, but a patron's card is expected.",
+  ...Array(3).fill("This should be the number of your card, with its letter or without it; a barcode is read at the desk alone.")]);
+// a card is its patron's wherever somebody is served
+is(["check-out", "renew", "pay", "place-hold"].map((mode) => itemOf(mode, 4, "P5")).map(({ kind, number }) => [kind, number]), Array(4).fill(["patron", 5]));
 is([["check-out", 4, "C"], ["check-out", 4, "C031"], ["pay", 4, "31"]].map((asked) => itemOf(...asked).kind), ["wrong", "wrong", "wrong"]);
-// a book that is scanned first opens no patron, and a card that is scanned as a copy lends nothing
-sent = network(turns([reply("loan 1 due 2026-03-09")], { "page 4": page(4, "Di Eck") }));
+// a book that is scanned first opens no patron, and the card of another patron takes what is scanned after it, and lends nothing itself
+sent = network(turns([reply("loan 1 due 2026-03-09")], { "page 4": page(4, "Di Eck"), "page 20": page(20, "Bo Carr") }));
 it = desk();
-for (const scan of ["C20", "P4", "P20", "C31"]) it.work.scan("check-out", scan);
-for (const [words, waits] of [[[], 3], [["page 4"], 1], [["page 4", "check-out 4 31 1", "page 4"], 0]]) {
+for (const scan of ["C20", "P4", "C30", "P20", "C31"]) it.work.scan("check-out", scan);
+for (const [words, waits] of [[[], 4], [["page 4", "check-out 4 30 1", "page 4", "page 20", "check-out 20 31 1", "page 20"], 0]]) {
   await until(() => isQuiet(it));
   is([bodies(sent), it.waiting().length], [words, waits]);
-  it.work.queue.sendOn();
+  it.work.sendOn();
+}
+
+// ---- a scan is first a barcode, then a prefix, and a bare number what the line asks for, however long the answers take and whichever are lost or cut off
+const things = { 20000000000004: "patron 4", 20000000000005: "patron 5", 30000100000031: "copy 31", C5: "patron 5", P4: "copy 32", 7: "copy 31", 8: "patron 5" };
+const labelled = (milliseconds = 0) => (barcode) => (things[barcode] ? reply(things[barcode], milliseconds) : refusal(18, milliseconds));
+const lending = () => turns([reply("loan 1 due 2026-03-09", 3)], { "page 4": page(4, "Di Eck"), "page 5": page(5, "Ed Fox") });
+for (const [mode, scans, words, barcodes = scans] of [
+  ["check-out", ["20000000000004", "30000100000031"], ["page 4", "check-out 4 31 1"]],
+  ["check-out", ["C5", "P4"], ["page 5", "check-out 5 32 1"]],
+  ["check-out", ["8", "7"], ["page 5", "check-out 5 31 1"]],
+  ["check-out", ["4", "C20", "21"], ["page 4", "check-out 4 20 1", "check-out 4 21 1"]],
+  ["check-in", ["30000100000031", "P4", "C20", "21"], ["check-in 31 1", "check-in 32 1", "check-in 20 1", "check-in 21 1"]],
+  // a card at the panel of a patron is the next one's, in each mode
+  ["check-out", ["20000000000004", "21", "20000000000005", "30000100000031", "22"], ["page 4", "check-out 4 21 1", "page 5", "check-out 5 31 1", "check-out 5 22 1"]],
+  ["pay", ["20000000000004", "2.50", "20000000000005", "0.20"], ["page 4", "pay-at 4 250 1", "page 5", "pay-at 5 20 1"], ["20000000000004", "20000000000005"]],
+  ["place-hold", ["4", "200", "C5", "300"], ["page 4", "place-hold 4 200 1", "page 5", "place-hold 5 300 1"]],
+]) {
+  for (const milliseconds of [0, 20]) {
+    sent = network(lending(), labelled(milliseconds));
+    it = desk();
+    for (const scan of scans) it.work.scan(mode, scan);
+    await until(() => isQuiet(it));
+    is([bodies(sent).filter((done, at, all) => !done.startsWith("page ") || !all.slice(0, at).includes(done)).filter((done) => !done.startsWith("copy ")), sent.barcodes, it.work.queue.isStopped], [words, barcodes, false]);
+  }
+}
+// an answer that is lost, cut off or none of the desk's is asked for again, before anything that was scanned later is sent
+let lostOnes = 0;
+sent = network(lending(), (barcode, at) => {
+  if (at % 4 === 3) return labelled()(barcode);
+  lostOnes += 1;
+  return [[0, null], [0, 502, "<html>"], [0, 200, null]][at % 4];
+});
+it = desk();
+for (const scan of ["20000000000004", "21", "20000000000005", "30000100000031"]) it.work.scan("check-out", scan);
+await until(() => isQuiet(it));
+is([acts(sent), lostOnes, it.unknown(), sent.barcodes.length, it.waiting()], [["check-out 4 21 1", "check-out 5 31 1"], 12, 12, 16, []]);
+// what is no card isn't taken for one, nor a card for a copy: it stops, and what was scanned for it goes to nobody
+for (const [mode, scans, text, done] of [
+  ["check-out", ["30000100000031", "21"], "30000100000031: This is a copy, but a patron's card is expected.", []],
+  ["check-out", ["20000000000009", "21"], "20000000000009: Nothing has this barcode.", []],
+  ["pay", ["20000000000004", "30000100000031", "0.20"], "30000100000031, patron 4: This is a copy, but an amount is expected.", ["pay-at 4 20 1"]],
+  ["check-in", ["20000000000004", "21"], "20000000000004: This is a patron's card, but a copy is expected.", ["check-in 21 1"]],
+]) {
+  sent = network(lending(), labelled());
+  it = desk();
+  for (const scan of scans) it.work.scan(mode, scan);
+  await until(() => isQuiet(it));
+  is([it.told.at(-1)[0], it.work.queue.isStopped, it.waiting().length, acts(sent)], [text, true, 1, []]);
+  it.work.sendOn();
+  await until(() => isQuiet(it));
+  is([acts(sent), it.work.queue.isStopped], [done, done.length === 0]);
+}
+// where it isn't known whose it is nothing that was scanned later is sent; it is asked again under the same scan
+sent = network(lending(), (barcode, at) => (at === 0 ? fault(90) : labelled()(barcode)));
+it = desk();
+for (const scan of ["20000000000004", "21"]) it.work.scan("check-out", scan);
+await until(() => isQuiet(it));
+is([bodies(sent), it.waiting(), desk(it.storage).work.end()], [[], ["copy 21, patron 20000000000004"], { unknown: [], unsent: ["20000000000004", "copy 21, patron 20000000000004"] }]);
+it.work.sendAgain("");
+await until(() => isQuiet(it));
+is([acts(sent), it.work.expected], [["check-out 4 21 1"], 4]);
+// and without it what was scanned for that card goes to nobody, and the next card is its patron's
+sent = network(lending(), (barcode, at) => (at === 0 ? fault(90) : labelled()(barcode)));
+it = desk();
+for (const scan of ["20000000000004", "21"]) it.work.scan("check-out", scan);
+await until(() => isQuiet(it));
+it.work.sendOn();
+is(it.work.expected, null);
+it.work.scan("check-out", "20000000000005");
+await until(() => isQuiet(it));
+is([it.told.at(-1), it.work.queue.isStopped], [["copy 21, patron 20000000000004: This is a copy, but a patron's card is expected.", true], true]);
+it.work.sendOn();
+await until(() => isQuiet(it));
+is([bodies(sent), it.work.expected], [["page 5"], 5]);
+// a card that is thrown away before it is known whose it is takes nothing either
+for (const card of ["20000000000004", "4"]) {
+  sent = network(turns([refusal(13), reply("loan 1 due 2026-03-09", 3)], { "page 5": page(5, "Ed Fox"), "copy 9": refusal(13) }), labelled());
+  it = desk();
+  it.work.scan("check-in", "9");
+  it.work.nextPatron();
+  for (const scan of [card, "21"]) it.work.scan("check-out", scan);
+  await until(() => isQuiet(it));
+  it.work.throwAway();
+  is([it.work.expected, it.waiting()], [null, []]);
+  for (const scan of ["20000000000005", "31"]) it.work.scan("check-out", scan);
+  await until(() => isQuiet(it));
+  is([bodies(sent).filter((words) => /^(page|check-out)/.test(words)).slice(0, 2), it.work.queue.isStopped], [["page 5", "check-out 5 31 1"], false]);
+}
+// nothing of whoever was there stays once the card of another one is scanned; the own card again goes on with its receipt
+sent = network(lending(), labelled(20));
+it = desk();
+for (const scan of ["4", "21", "20000000000004"]) it.work.scan("check-out", scan);
+await until(() => isQuiet(it));
+it.work.scan("check-out", "P4x");
+await until(() => isQuiet(it));
+it.work.sendOn();
+it.work.scan("check-out", "20000000000004");
+await until(() => isQuiet(it));
+is([it.shown().page.patron, it.receipts.at(-1).length], [4, 2]);
+it.work.scan("check-out", "C5");
+await until(() => it.shown() === null);
+is([it.noted, it.work.expected], [[], 5]);
+await until(() => isQuiet(it));
+is([it.receipts.at(-1), JSON.stringify([it.shown(), it.noted, ...it.storage.all]).includes("Di Eck")], [[`Ed Fox, ${dayOf}, branch 1`], false]);
+// the same patron in the next turn has another receipt, and nothing of the one before is shown in it
+sent = network(lending(), labelled(5));
+it = desk();
+for (const scan of ["4", "21"]) it.work.scan("check-out", scan);
+it.work.nextPatron();
+const shownBefore = it.receipts.length;
+it.work.scan("check-out", "4");
+await until(() => isQuiet(it));
+is([acts(sent), [...new Set(it.receipts.slice(shownBefore).map((rows) => rows.length))], it.receipts.length > shownBefore], [["check-out 4 21 1"], [1], true]);
+// a number that was chosen among what was found is no barcode
+sent = network(lending(), labelled());
+it = desk();
+for (const number of [4, 8]) it.work.pick("place-hold", number);
+await until(() => isQuiet(it));
+is([acts(sent), sent.barcodes], [["place-hold 4 8 1"], []]);
+// letters that are no barcode are searched for, where nothing else was scanned after them
+for (const [scans, sought, isStopped] of [[["bell"], ["bell"], false], [["bell", "21"], [], true]]) {
+  sent = network(lending(), labelled());
+  it = desk();
+  for (const scan of scans) it.work.scan("check-out", scan);
+  await until(() => isQuiet(it));
+  is([it.sought, sent.barcodes[0], it.work.queue.isStopped, it.work.expected, bodies(sent)], [sought, "bell", isStopped, null, []]);
 }
 
 // ---- an amount above 50.00 is taken once the clerk says so
@@ -270,10 +403,10 @@ sent = network(turns([reply("owed 0")], { "page 4": page(4, "Di Eck") }));
 it = desk();
 for (const scan of ["4", "50.00", "50.01", "0.20"]) it.work.scan("pay", scan);
 await until(() => isQuiet(it));
-is([acts(sent), it.told.at(-1), it.waiting()], [["pay 4 5000"], ["Take 50.01 from Di Eck?", true], ["0.20 paid, patron 4"]]);
+is([acts(sent), it.told.at(-1), it.waiting()], [["pay-at 4 5000 1"], ["Take 50.01 from Di Eck?", true], ["0.20 paid, patron 4"]]);
 it.work.queue.sendAgain();
 await until(() => isQuiet(it));
-is(acts(sent), ["pay 4 5000", "pay 4 5001", "pay 4 20"]);
+is(acts(sent), ["pay-at 4 5000 1", "pay-at 4 5001 1", "pay-at 4 20 1"]);
 it.work.scan("pay", "1234.00");
 await until(() => isQuiet(it));
 is([it.work.queue.isStopped, needsConfirming(it.work.queue.held)], [true, true]);
@@ -281,7 +414,7 @@ is(desk(it.storage).work.end(), { unknown: [], unsent: ["1234.00 paid, patron 4"
 it.work.queue.sendOn();
 it.work.scan("pay", "1234");
 await until(() => isQuiet(it));
-is([acts(sent).length, it.told.at(-1)], [3, ["1234: This should be an amount such as 2.50.", true]]);
+is([acts(sent).length, it.told.at(-1)], [3, ["1234, patron 4: This should be an amount such as 2.50.", true]]);
 
 // ---- another day than that of this machine is begun by a typed yes alone, and that of this machine by its words
 const otherDay = "2190-12-31";
@@ -412,12 +545,14 @@ it.work.scan("pay", "0.60");
 it.work.words(["missing", "20"]);
 await until(() => isQuiet(it));
 is(it.noted, ["page 2: Patron 2, Bo Carr: 1 on loan, 1 on hold, owes 0.00.", "check-out 2 20 1: Salt Roads lent to Bo Carr, due 2026-03-09.",
-  "place-hold 2 300 1: Hold 5 on Maps, Old and New is placed for Bo Carr.", "pay 2 0.60: Bo Carr still owes 0.40.", "missing 20: Salt Roads: Fine 0.00, price 12.00. Bo Carr owes 12.40 now."]);
+  "place-hold 2 300 1: Hold 5 on Maps, Old and New is placed for Bo Carr.", "pay-at 2 0.60 1: Bo Carr still owes 0.40.", "missing 20: Salt Roads: Fine 0.00, price 12.00. Bo Carr owes 12.40 now."]);
 
 // ---- what is refused is told by the words that were sent, and an amount by what is owed
 const owing = "patron 2 owed 40 name Bo Carr";
 for (const [words, number, text] of [
   [["pay", "2", "60"], 60, "That is more than is owed (0.40)."],
+  [["pay-at", "2", "60", "1"], 60, "That is more than is owed (0.40)."],
+  [["charge", "2", "0", "1", "Card"], 60, "That is nothing, or more than is owed."],
   [["waive", "2", "60"], 60, "That is more than is owed (0.40)."],
   [["pay", "2", "0"], 60, "That is nothing, or more than is owed."],
   [["pay", "3", "60"], 60, "That is nothing, or more than is owed."],
@@ -621,6 +756,15 @@ await until(() => isQuiet(it));
 is(it.receipts.at(-1), [`Ann Bell, ${dayOf}, branch 1`, "Rivers of the North, renewed, due 2026-03-09", "Paid 2.50, still owed 0.40",
   "Salt Roads, hold 7, to be picked up at branch 2", "Winter Bees, hold 8 from 2026-04-01, to be picked up at branch 1"]);
 is(JSON.stringify([it.receipts, it.noted, it.told]).includes("cardkey"), false);
+// what is taken or charged at a counter says where, and a charge what it is for
+sent = network(turns([reply("owed 250"), reply("owed 150"), reply("owed 600"), reply("owed 130")], { "page 2": page(2, "Bo Carr") }));
+it = desk();
+it.work.scan("check-out", "2");
+for (const words of [["charge", "2", "250", "1", "Photocopies, 10 pages"], ["pay-at", "2", "100", "2"], ["charge", "3", "600", "2", "Lost card"], ["waive", "2", "20"]]) it.work.words(words);
+await until(() => isQuiet(it));
+is(it.receipts.at(-1), [`Bo Carr, ${dayOf}, branch 1`, "Photocopies, 10 pages: 2.50 charged at branch 1, now owed 2.50", "Paid 1.00 at branch 2, still owed 1.50"]);
+is(it.noted.slice(1), ["charge 2 2.50 1 Photocopies, 10 pages: 2.50 charged for Photocopies, 10 pages. Bo Carr owes 2.50 now.", "pay-at 2 1.00 2: Bo Carr still owes 1.50.",
+  "charge 3 6.00 2 Lost card: Still owed: 6.00.", "waive 2 0.20: Bo Carr still owes 1.30."]);
 // a card that is scanned again begins another receipt
 it.work.nextPatron();
 it.work.scan("check-out", "2");
@@ -724,6 +868,45 @@ for (const [acts1, wantedActs] of [[[[60_000]], ["check-in 1 1", "check-in 2 1",
   it.work.queue.throwAway();
   is([it.work.queue.isEmpty, machine.length], [true, 0]);
 }
+// a desk that is left to another clerk keeps what waits, and what stopped it, for the first one; nothing of it stays in the tab, nor is anything sent by the second one
+for (const [answer, leftItems] of [[[60_000], ["copy 1", "copy 2", "copy 3"]], [fault(91), ["copy 1", "copy 2", "copy 3"]], [refusal(36), ["copy 1", "copy 2", "copy 3"]], [reply("fine 0 shelf 1", 0), []]]) {
+  const [coveredTab, locked] = [tabOf("1"), []];
+  coveredTab.beOpen({ request: (name, open) => locked.push(name, open()) });
+  let isLeft = false;
+  locked[1].then(() => { isLeft = true; });
+  sent = network(turns([answer]));
+  it = desk(new Kept(), undefined, (items) => coveredTab.keep(items));
+  for (const scan of ["1", "2", "3"]) it.work.scan("check-in", scan);
+  await until(() => isQuiet(it) || (answer[0] === 60_000 && sent.length === 1));
+  const [firstKey, before] = [keysOf(sent)[0], sent.length];
+  is([it.work.leave(), isLeft], [leftItems.length > 0, false]);
+  it.leaving.abort();
+  coveredTab.leave();
+  await new Promise((done) => setTimeout(done, 5));
+  is([sent.length - before, it.storage.all.size, it.work.queue.isEmpty, isLeft, machine.length], [0, 0, true, true, Math.min(leftItems.length, 1)]);
+  is([tabOf("1", "bokey0000001").take([]), JSON.stringify([...machine.all]).includes("key0000")], [[], false]);
+  const firstAgain = tabOf("1");
+  it = desk(new Kept(), undefined, (items) => firstAgain.keep(items));
+  it.work.queue.takeOver(firstAgain.take([]));
+  is(it.waiting(), leftItems);
+  sent = network(turns([reply("fine 0 shelf 1")]));
+  it.work.queue.sendOn();
+  await until(() => isQuiet(it));
+  is([acts(sent), keysOf(sent)[0] === firstKey, machine.length], [leftItems.map((item) => `check-in ${item.slice(5)} 1`), leftItems.length > 0, 0]);
+}
+// for whom it was scanned is kept with it, also where it wasn't known yet whose the card is
+sent = network(lending(), () => [60_000]);
+const cardTab = tabOf("1");
+it = desk(new Kept(), undefined, (items) => cardTab.keep(items));
+for (const scan of ["20000000000004", "21"]) it.work.scan("check-out", scan);
+is(it.work.leave(), true);
+it.leaving.abort();
+sent = network(lending(), labelled());
+it = desk();
+it.work.queue.takeOver(tabOf("1").take([]));
+it.work.queue.sendOn();
+await until(() => isQuiet(it));
+is([acts(sent), it.shown(), it.work.expected], [["check-out 4 21 1"], null, null]);
 // what a page from before kept has no mark, and is anybody's
 machine.setItem("circ.waiting.before", JSON.stringify({ branch: "1", items: [["check-in", "9", "1"]] }));
 is(tabOf("1", "bokey0000001").take([]), [["check-in", "9", "1"]]);
@@ -742,15 +925,22 @@ is([await openTabs(null), await openTabs({ query: async () => ({ held: [{ name: 
 sent = network([[60_000]]);
 it = desk();
 for (const scan of ["1", "2"]) it.work.scan("check-in", scan);
+await until(() => sent.length === 1);
 it.leaving.abort();
 is(it.work.end(), { unknown: ["copy 1"], unsent: ["copy 2"] });
 const before = it.noted.length;
 await new Promise((done) => setTimeout(done, 5));
 is([sent.length, it.noted.length - before, it.storage.all.size], [1, 0, 0]);
+// as long as it is asked whose barcode it is nothing was sent
+sent = network([[60_000]], () => [60_000]);
+it = desk();
+for (const scan of ["1", "2"]) it.work.scan("check-in", scan);
+is(it.work.end(), { unknown: [], unsent: ["copy 1", "copy 2"] });
 // what only asks has nothing that is unknown, and what met a fault may have been done
 sent = network([[60_000]]);
 it = desk();
 it.work.scan("check-out", "4");
+it.leaving.abort();
 is(it.work.end(), { unknown: [], unsent: [] });
 sent = network([fault(91)]);
 it = desk();
@@ -794,23 +984,32 @@ is(sent, [["/patrons/5/loans/1/renew", edsKey, undefined, undefined]]);
 
 // ---- what can't be undone is asked about with the name and the sum, and is sent once the clerk says so; what is in doubt isn't sent
 const onShelf = "copy 20 home 2 kind 1 price 1200 title 200 Salt Roads\nshelf 2", onLoan = "copy 20 home 2 kind 1 price 1200 title 200 Salt Roads\nloan 2 due 2026-03-09 patron 2 Bo Carr";
-const carr = "patron 2 owed 130 name Bo Carr\nkind 1";
+const carr = "patron 2 owed 130 name Bo Carr\nkind 1\nbarcode 20000000000002";
 for (const [words, about, copy, question, asked, yes] of [
   [["withdraw", "20"], {}, onShelf, "copy 20", "Withdraw Salt Roads, copy 20? It can't be taken back.", "Withdraw"],
   [["missing", "20"], {}, onShelf, "copy 20", "Report Salt Roads, copy 20, as missing?", "Report as missing"],
   [["missing", "20"], {}, onLoan, "copy 20", "Report Salt Roads, copy 20, as missing? Bo Carr will owe its price of 12.00, and a fine if it is late.", "Report as missing"],
   [["waive", "2", "130"], {}, onLoan, "borrower 2", "Waive 1.30 for Bo Carr?", "Waive 1.30"],
+  [["charge", "2", "250", "1", "Photocopies, 10 pages"], {}, onLoan, "borrower 2", "Charge Bo Carr 2.50 for Photocopies, 10 pages?", "Charge 2.50"],
+  [["copy-barcode", "20", "a1"], {}, `${onShelf}\nbarcode 30000100000020`, "copy 20", "Give Salt Roads the barcode a1? The old one, 30000100000020, will no longer be good.", "Give the new barcode"],
+  [["patron-barcode", "2", "A1"], {}, onLoan, "borrower 2", "Give Bo Carr the barcode A1? The old one, 20000000000002, will no longer be good.", "Give the new barcode"],
+  [["drop-barcode", "a1"], { copy: 20 }, onShelf, "copy 20", "Drop the barcode a1 of Salt Roads?", "Drop the barcode"],
+  [["drop-barcode", "20000000000002"], { patron: 2 }, onShelf, "borrower 2", "Drop the barcode 20000000000002 of Bo Carr?", "Drop the barcode"],
+  [["drop-barcode", "01"], {}, onShelf, "find-barcode 01", "Drop the barcode 01 of copy 11?", "Drop the barcode"],
   [["card-key", "2", "newkey000002"], {}, onLoan, "borrower 2", "Give Bo Carr a new card key? The old one will no longer be good.", "Give the new key"],
   [["cancel-hold", "7"], { patron: 2, text: "Tides" }, onLoan, "borrower 2", "Cancel the hold of Bo Carr on Tides?", "Cancel the hold"],
   [["unshelve-cancelled", "7"], { name: "Bo Carr", text: "Tides" }, onLoan, null, "Cancel the hold of Bo Carr on Tides, which stands ready?", "Cancel the hold"],
 ]) {
-  const before = question === null ? [] : [question];
-  sent = network(turns([reply("ok")], { "copy 20": copy, "copy 1": "copy 1 home 1 kind 1 price 100 title 1 Any\nshelf 1", "borrower 2": carr }));
+  const before = question === null || question.startsWith("find-barcode") ? [] : [question];
+  const found = { "copy 20": copy, "copy 1": "copy 1 home 1 kind 1 price 100 title 1 Any\nshelf 1", "borrower 2": carr };
+  const whose = (barcode) => (barcode === "01" ? reply("copy 11") : refusal(18));
+  sent = network(turns([reply("ok")], found), whose);
   it = desk();
   it.work.press(words, about);
   it.work.scan("check-in", "1");
   await until(() => isQuiet(it));
   is([bodies(sent), it.work.queue.isStopped, it.told.at(-1), it.waiting()], [before, true, [asked, true], ["copy 1"]]);
+  is(sent.barcodes.map((barcode) => `find-barcode ${barcode}`), before.length === 0 && question !== null ? [question] : []);
   const { held } = it.work.queue;
   is([plain(held.asked.asked), plain(held.asked.yes), held.asked.no], [asked, yes, "Don't"]);
   it.work.sendAgain("");
@@ -818,7 +1017,7 @@ for (const [words, about, copy, question, asked, yes] of [
   is(acts(sent), [words.join(" "), "check-in 1 1"]);
   is(it.ended[0], [words.join(" "), null]);
   // without it nothing is done
-  sent = network(turns([reply("ok")], { "copy 20": copy, "copy 1": "copy 1 home 1 kind 1 price 100 title 1 Any\nshelf 1", "borrower 2": carr }));
+  sent = network(turns([reply("ok")], found), whose);
   it.work.press(words, about);
   await until(() => isQuiet(it));
   it.work.sendOn();
@@ -836,6 +1035,17 @@ for (const [answer, told] of [[refusal(13), "There is no such copy."], [fault(91
   it.work.queue.sendAgain();
   await until(() => isQuiet(it));
   is(bodies(sent), ["copy 20"]);
+}
+// a first barcode takes nothing away and isn't asked about; what met a fault then is sent again under its key
+for (const [words, asked] of [[["copy-barcode", "20", "a1"], "copy 20"], [["patron-barcode", "2", "A1"], "borrower 2"]]) {
+  sent = network(turns([fault(91), reply("ok")], { "copy 20": onShelf, "borrower 2": "patron 2 owed 0 name Bo Carr\nkind 1" }));
+  it = desk();
+  it.work.press(words);
+  await until(() => isQuiet(it));
+  is([bodies(sent), it.work.queue.isStopped, needsConfirming(it.work.queue.held), desk(it.storage).work.end().unknown], [[asked, words.join(" ")], true, false, [words.join(" ")]]);
+  it.work.sendAgain("");
+  await until(() => isQuiet(it));
+  is([acts(sent), new Set(keysOf(sent)).size, it.ended], [Array(2).fill(words.join(" ")), 1, [[words.join(" "), 0], [words.join(" "), null]]]);
 }
 // no name is kept on the machine, and where the tab is closed it is asked about anew
 let keptOfIt = [];
@@ -866,6 +1076,6 @@ await until(() => isQuiet(it));
 it.work.queue.sendOn();
 await until(() => isQuiet(it));
 is(it.ended, [["close-day 9 2026-12-24", 10], ["close-day 1 2026-12-24", null]]);
-is(Object.keys(COMMANDS).filter((name) => isAskedFirst([name])), ["card-key", "cancel-hold", "unshelve-cancelled", "missing", "withdraw", "waive"]);
+is(Object.keys(COMMANDS).filter((name) => isAskedFirst([name])), ["card-key", "copy-barcode", "patron-barcode", "drop-barcode", "cancel-hold", "unshelve-cancelled", "missing", "withdraw", "waive", "charge"]);
 
 console.log(`hands: ${tried} tried`);

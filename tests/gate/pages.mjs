@@ -4,7 +4,7 @@ import { readCopy, readList } from "../../pages/questions.js";
 import { readAnswer, readReply, readPage } from "../../pages/replies.js";
 import { daysBetween, isDay, today } from "../../pages/days.js";
 import { calendarOf } from "../../pages/due_days.js";
-import { QUESTIONS, centsOf, commandBegun, holdBody, isKey, isNumber, readLine, wordsTyped } from "../../pages/commands.js";
+import { QUESTIONS, centsOf, commandBegun, holdBody, isBarcode, isKey, isNumber, readLine, wordsTyped } from "../../pages/commands.js";
 import { Door, newKey } from "../../pages/asking.js";
 import { marked, plain } from "../../pages/isolating.js";
 import { problemOfLine, problemOfWords } from "../../pages/misread.js";
@@ -99,6 +99,8 @@ const asked = [
   "hold 1 copy 11 title 100 Rivers of the North\nend",
   "copy 11 for 1 title 100 Rivers of the North\nend",
   "till 2026-03-17\nfines                100\nprices                 0\npayments              30\nwaivers                0",
+  "till 2026-03-03 at 1\npayments               0\ncharges              250",
+  "copy 10 home 1 kind 2 price 3000 title 100 Rivers of the East\nloan 2 due 2026-03-16 patron 2 Bo Carr\nbarcode 30000100000010",
   "patron 4 owed 0 name Åsa Ångström-Łuć\nafter 4",
   "title 400 2 × 2 Œuvres\nend",
   "after 24996",
@@ -111,7 +113,11 @@ const asked = [
 for (const text of asked) is(readReply(text), { kind: "shown", lines: text.split("\n") });
 is(readReply("patron 1 owed 0 name Ann Bell").kind, "page");
 is(readReply("today 2026-03-02"), { kind: "day", day: "2026-03-02" });
-is(readReply("patron 1 owed 20 name Ann Özil\nkind 2"), { kind: "borrower", patron: 1, owed: 20, name: "Ann Özil", patronKind: 2 });
+is(readReply("patron 1 owed 20 name Ann Özil\nkind 2"), { kind: "borrower", patron: 1, owed: 20, name: "Ann Özil", patronKind: 2, barcode: null });
+is(readReply("patron 1 owed 0 name Ann Özil\nkind 2\nbarcode 20000000000001"), { kind: "borrower", patron: 1, owed: 0, name: "Ann Özil", patronKind: 2, barcode: "20000000000001" });
+is(["copy 10", "patron 1"].map(readReply), [{ kind: "found", of: "copy", number: 10 }, { kind: "found", of: "patron", number: 1 }]);
+is(["copy 10", "patron 1", "patron 1 owed 0 name Ann Özil\nkind 2\nbarcode 01"].map((text) => said(readReply(text))),
+  ["This is the barcode of copy 10.", "This is the barcode of patron 1.", "Patron 1, Ann Özil: kind 2, owes 0.00. Barcode 01."]);
 is([readReply("today 2026-03-02"), readReply("patron 1 owed 20 name Ann Özil\nkind 2")].map((reply) => said(reply)), ["Today is 2026-03-02.", "Patron 1, Ann Özil: kind 2, owes 0.20."]);
 is(isCommand(wordsOf("pulls 1 0")), true);
 is(isCommand(wordsOf("pulls 1")), false);
@@ -133,8 +139,12 @@ const places7 = [
   ["withdrawn", { to: "withdrawn" }],
 ];
 const rivers = { copy: 10, home: 1, kind: 2, price: 2500, title: 100, text: "Rivers of the North" };
-for (const [text, place] of places7) is(readCopy(`copy 10 home 1 kind 2 price 2500 title 100 Rivers of the North\n${text}`), { ...rivers, place });
+for (const [text, place] of places7) {
+  is(readCopy(`copy 10 home 1 kind 2 price 2500 title 100 Rivers of the North\n${text}`), { ...rivers, place, barcode: null });
+  is(readCopy(`copy 10 home 1 kind 2 price 2500 title 100 Rivers of the North\n${text}\nbarcode 01`), { ...rivers, place, barcode: "01" });
+}
 for (const text of ["copy 10 home 1 kind 2 price 2500 title 100 Rivers", "copy 10 home 1 kind 2 price 2500 title 100 Rivers\nnowhere", "copy 10\nshelf 1", "copy 10 home 1 kind 2 price 2500 title 100 R\nshelf 1\nend",
+  "copy 10 home 1 kind 2 price 2500 title 100 R\nshelf 1\nbarcode A-1", "copy 10 home 1 kind 2 price 2500 title 100 R\nbarcode 01", "copy 10 home 1 kind 2 price 2500 title 100 R\nshelf 1\nbarcode 01\nend",
   "copy 10 home 1 kind 2 price 2500 title 100 R\nready 1 at 2 until 2026-03-07", "loan 1 due 2026-03-09"]) {
   is(readCopy(text), null);
 }
@@ -171,13 +181,15 @@ is(["find-patrons", "find-titles"].map((question) => readList(question, "after 2
 is(readList("account", "patron 1 owed 40 name Ann Bell\nline 1 2026-03-17 fine 100 loan 1 title 100 Rivers of the North\nline 2 2026-03-17 payment 60\nline 3 2026-03-17 waiver 5\nline 4 2026-03-18 price 5 loan 2 title 200 A\nend"), {
   head: { patron: 1, owed: 40, name: "Ann Bell" },
   rows: [
-    { line: 1, day: "2026-03-17", sort: "fine", amount: 100, loan: 1, title: 100, text: "Rivers of the North" },
-    { line: 2, day: "2026-03-17", sort: "payment", amount: 60, text: null },
-    { line: 3, day: "2026-03-17", sort: "waiver", amount: 5, text: null },
-    { line: 4, day: "2026-03-18", sort: "price", amount: 5, loan: 2, title: 200, text: "A" },
+    { line: 1, day: "2026-03-17", sort: "fine", amount: 100, branch: null, text: "Rivers of the North", loan: 1, title: 100 },
+    { line: 2, day: "2026-03-17", sort: "payment", amount: 60, branch: null, text: null },
+    { line: 3, day: "2026-03-17", sort: "waiver", amount: 5, branch: null, text: null },
+    { line: 4, day: "2026-03-18", sort: "price", amount: 5, branch: null, text: "A", loan: 2, title: 200 },
   ],
   after: null,
 });
+is(rows("account", "patron 2 owed 150 name Bo Carr\nline 1 2026-03-03 charge 250 at 1 for Photocopies, 10 pages\nline 2 2026-03-03 payment 100 at 2\nend"), [
+  { line: 1, day: "2026-03-03", sort: "charge", amount: 250, branch: 1, text: "Photocopies, 10 pages" }, { line: 2, day: "2026-03-03", sort: "payment", amount: 100, branch: 2, text: null }]);
 is(readList("queue", "title 100 Rivers of the North\nhold 2 patron 3 at 2\nhold 3 patron 1 at 1 from 2026-04-01\nend"), {
   head: { title: 100, text: "Rivers of the North" },
   rows: [{ hold: 2, patron: 3, branch: 2, from: null }, { hold: 3, patron: 1, branch: 1, from: "2026-04-01" }],
@@ -188,7 +200,12 @@ is(rows("copies", "title 100 Rivers of the North\ncopy 10 loan 1 due 2026-03-09\
   { to: "branch", branch: 2, hold: null }, { to: "missing" }, { to: "withdrawn" }]);
 is(readList("till", "till 2026-03-17\nfines                200\nprices              1200\npayments            1360\nwaivers               40"), {
   head: { day: "2026-03-17" }, rows: [{ sort: "fines", amount: 200 }, { sort: "prices", amount: 1200 }, { sort: "payments", amount: 1360 }, { sort: "waivers", amount: 40 }], after: null });
-for (const [question, text] of [["pulls", ""], ["pulls", "hold 2 copy 11 title 100 Rivers"], ["pulls", "copy 11 title 100 R\nend"], ["shelf", "end"], ["shelf", "      loan  patron    copy due         late title\nend"],
+is(readList("till", "till 2026-03-03\nfines                  0\nprices                 0\npayments             150\nwaivers               20\ncharges              250").rows.at(-1), { sort: "charges", amount: 250 });
+is(readList("till-at", "till 2026-03-03 at 2\npayments             100\ncharges                0"), {
+  head: { day: "2026-03-03", branch: 2 }, rows: [{ sort: "payments", amount: 100 }, { sort: "charges", amount: 0 }], after: null });
+for (const [question, text] of [["pulls", ""], ["till-at", "till 2026-03-03\npayments 1\ncharges 0"], ["till-at", "till 2026-03-03 at 2\npayments 1"], ["till", "till 2026-03-03 at 2\npayments 1\ncharges 0"],
+  ["till", "till 2026-03-03\nfines 0\nprices 0\ncharges 0\npayments 0\nwaivers 0"], ["account", "patron 2 owed 150 name Bo Carr\nline 1 2026-03-03 charge 250 at 1\nend"],
+  ["account", "patron 2 owed 150 name Bo Carr\nline 1 2026-03-03 waiver 250 at 1\nend"], ["pulls", "hold 2 copy 11 title 100 Rivers"], ["pulls", "copy 11 title 100 R\nend"], ["shelf", "end"], ["shelf", "      loan  patron    copy due         late title\nend"],
   ["queue", "end"], ["copies", "title 1 A\ncopy 10 nowhere\nend"], ["account", "end"], ["till", "till 2026-03-17\nfines 1"], ["debts", "after"], ["transits", "title 1 A\nend"], ["find-patrons", "title 1 A\nend"],
   ["find-titles", "patron 1 owed 0 name A\nend"], ["find-titles", "title 1 A"],
   ["branches", "branch 1 pickup 5 week oooooo name Main\nend"], ["branches", "branch 1 pickup 5 week ooooooc name\nend"], ["closed-days", "day 2026-3-3\nend"], ["closed-days", "day 2026-03-03"],
@@ -205,7 +222,7 @@ is(table("shelf", "      hold    copy  patron until      title\n         1      
 is(table("overdue", "      loan  patron    copy due         late title\n         1       3      10 2026-03-09     7 Rivers of the North\nend"),
   { head: "Overdue", columns: ["Loan", "Patron", "Copy", "Due", "Days late", "Title"], rows: [["1", "3", "10", "2026-03-09", "7", "Rivers of the North"]] });
 is(table("transits", "copy 20 for 1 title 200 Salt Roads\ncopy 21 title 300 Maps\nend").rows, [["20", "Salt Roads", "1"], ["21", "Maps", ""]]);
-is(table("debts", "patron 2 owed 1300 name Bo Carr\nend"), { head: "Patrons who owe", columns: ["Patron", "Name", "Owes"], rows: [["2", "Bo Carr", "13.00"]] });
+is(table("debts", "patron 2 owed 1300 name Bo Carr\nend"), { head: "Patrons who owe, all branches", columns: ["Patron", "Name", "Owes"], rows: [["2", "Bo Carr", "13.00"]] });
 const found = (question, text) => tableOf(question, { ...readList(question, text), head: { sought: "zoe" } });
 is(found("find-patrons", "patron 1001 owed 5 name Zoë Sand\nend"), { head: "Patrons found by zoe", columns: ["Patron", "Name", "Owes"], rows: [["1001", "Zoë Sand", "0.05"]] });
 is(found("find-titles", "title 300 Zoë\nafter 300"), { head: "Titles found by zoe", columns: ["Title number", "Title"], rows: [["300", "Zoë"]] });
@@ -228,11 +245,18 @@ is(told("loans", "11", "end"), { head: "Loans of copy 11", columns: ["Loan", "Pa
 is([wordsOfQuestion("missing-copies", 1, 20), wordsOfQuestion("loans", "10", 1)], [["missing-copies", 20], ["loans", "10", 1]]);
 is(["pulls", "copies", "find-patrons", "find-titles", "branches", "kinds"].map((question) => headOf(question, "an")), [null, null, { sought: "an" }, { sought: "an" }, null, null]);
 is(table("account", "patron 1 owed 40 name Ann Bell\nline 1 2026-03-17 fine 100 loan 1 title 100 Rivers of the North\nline 2 2026-03-17 payment 60\nend"), {
-  head: "Account of Ann Bell, patron 1: owes 0.40", columns: ["Line", "Day", "What", "Amount", "Title"],
+  head: "Account of Ann Bell, patron 1: owes 0.40", columns: ["Line", "Day", "What", "Amount", "For"],
   rows: [["1", "2026-03-17", "fine", "1.00", "Rivers of the North"], ["2", "2026-03-17", "payment", "0.60", ""]],
 });
 is(table("till", "till 2026-03-17\nfines                200\nprices              1200\npayments            1360\nwaivers               40"), {
-  head: "Till of 2026-03-17", columns: ["Sum of", "Amount"], rows: [["fines", "2.00"], ["prices", "12.00"], ["payments", "13.60"], ["waivers", "0.40"]] });
+  head: "Till of all branches, 2026-03-17", columns: ["Sum of", "Amount"], rows: [["fines", "2.00"], ["prices", "12.00"], ["payments", "13.60"], ["waivers", "0.40"]] });
+// where money was taken or charged stands beside what it was, and the till of one branch is headed by its name
+is(table("account", "patron 2 owed 150 name Bo Carr\nline 1 2026-03-03 charge 250 at 1 for Photocopies, 10 pages\nline 2 2026-03-03 payment 100 at 2\nend").rows,
+  [["1", "2026-03-03", "charge at branch 1", "2.50", "Photocopies, 10 pages"], ["2", "2026-03-03", "payment at branch 2", "1.00", ""]]);
+is(table("till-at", "till 2026-03-03 at 1\npayments               0\ncharges              250"), {
+  head: "Till of branch 1, 2026-03-03", columns: ["Sum of", "Amount"], rows: [["payments", "0.00"], ["charges", "2.50"]] });
+is(["pulls", "shelf", "transits", "overdue", "till-at", "till", "debts", "missing-copies", "find-patrons", "account", "kinds"].map(tables.isOfBranch), [...Array(5).fill(true), ...Array(6).fill(false)]);
+is(wordsOfQuestion("till-at", "2026-03-03", 0, "2"), ["till-at", "2", "2026-03-03"]);
 is(table("queue", "title 100 Rivers of the North\nhold 2 patron 3 at 2\nhold 3 patron 1 at 1 from 2026-04-01\nend"), {
   head: "Who waits for Rivers of the North, title 100", columns: ["Hold", "Patron", "Pick-up at", "From"], rows: [["2", "3", "branch 2", ""], ["3", "1", "branch 1", "2026-04-01"]] });
 is(table("copies", "title 100 Rivers of the North\ncopy 10 loan 1 due 2026-03-09\ncopy 11 transit 1 for 1\ncopy 15 missing\nend"), {
@@ -325,6 +349,7 @@ is(isCommand(null), false);
 is(["0", "1", "4294967295", "4294967296", "01", "-1", "1.0", ""].map(isNumber), [true, true, true, false, false, false, false, false]);
 is(["2.50", "0,05", "2", "250", "12.5", "1.005", ".5", "-1", "1.2.50"].map(centsOf), [250, 5, null, null, null, null, null, null, null]);
 is(["deskkey00001", "A2345678", "short", "a".repeat(33), "key with blank", "clé234567"].map(isKey), [true, true, false, false, false, false]);
+is(["30000100000010", "01", "a1", "a".repeat(24), "a".repeat(25), "", "A-1", "2.50", "é1"].map(isBarcode), [true, true, true, true, false, false, false, false, false]);
 is([0, 5, 250, 100000].map(amount), ["0.00", "0.05", "2.50", "1000.00"]);
 is(daysBetween("2026-03-28", "2026-03-30"), 2);
 is(daysBetween("2026-03-09", "2026-03-02"), -7);
@@ -352,11 +377,18 @@ for (const [line, problem] of [
   ["amend-title 1 ' Tides'", "text must be 1 to 120 bytes, with no control character and no space at either end:  Tides"],
   ["amend-title 1 ''", "text must be 1 to 120 bytes, with no control character and no space at either end: "],
   ["check-out -1 x", "No word may begin with a hyphen: -1"],
+  ["copy-barcode 10 A-1", "barcode must be 1 to 24 ASCII letters and digits: A-1"],
+  ["find-barcode 1234567890123456789012345", "barcode must be 1 to 24 ASCII letters and digits: 1234567890123456789012345"],
+  ["charge 2 250 1 Card", "amount must be an amount such as 2.50: 250"],
+  ["pay-at 2 250 1", "amount must be an amount such as 2.50: 250"],
+  ["waive 2 250", "amount must be an amount such as 2.50: 250"],
   ["amend-title 1 'Tides", "A quote is not closed: 'Tides"],
   ["amend-title 1 O'Hara", "A quote is not closed: O'Hara"],
 ]) {
   is(plain(problemOfLine(line)), problem);
 }
+is(["charge 2 2.50 1 'Lost card'", "pay-at 2 2.50 1", "waive 2 0,20", "copy-barcode 10 030000100000010"].map((line) => wordsTyped(readLine(line).words).join(" ")),
+  ["charge 2 250 1 Lost card", "pay-at 2 250 1", "waive 2 20", "copy-barcode 10 030000100000010"]);
 is(["pay 1 2.50", "pay 1 2,50", "kind 1 5 5 5.00", "rule 1 1 28 2 0.20 10.00", "acquire 10 100 1 1 25.00 'Salt Roads'", "today", "grace 1 1 2"].map((line) => wordsTyped(readLine(line).words).join(" ")),
   ["pay 1 250", "pay 1 250", "kind 1 5 5 500", "rule 1 1 28 2 20 1000", "acquire 10 100 1 1 2500 Salt Roads", "today", "grace 1 1 2"]);
 const long120 = "ö".repeat(60);

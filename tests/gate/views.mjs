@@ -68,20 +68,23 @@ const rowsOf = {
   pulls: [{ hold: 1, copy: 11, title: 100, text: "Rivers" }], transits: [{ copy: 11, hold: null, title: 100, text: "Rivers" }], debts: [{ patron: 2, owed: 130, name: "Bo Carr" }],
   overdue: [{ loan: 1, patron: 2, copy: 11, due: "2026-03-09", late: 7, text: "Rivers" }], shelf: [{ hold: 7, copy: 11, patron: 2, until: "2026-03-07", text: "Rivers" }, { hold: 8, copy: 12, patron: 2, until: "2026-03-09", text: "Rivers" }],
   "find-patrons": [{ patron: 2, owed: 130, name: "Bo Carr" }], "find-titles": [{ title: 100, text: "Rivers" }], queue: [{ hold: 7, patron: 2, branch: 1, from: null }], "missing-copies": [{ copy: 11, home: 1, title: 100, text: "Rivers" }],
-  copy: ["shelf", "loan", "missing", "withdrawn"].map((to) => ({ copy: 11, home: 1, kind: 1, price: 2500, title: 100, text: "Rivers", place: { to } })), copies: [{ copy: 11, place: { to: "shelf" } }],
+  copy: ["shelf", "loan", "missing", "withdrawn"].map((to) => ({ copy: 11, home: 1, kind: 1, price: 2500, title: 100, text: "Rivers", place: { to }, barcode: to === "loan" ? "a1" : null })), copies: [{ copy: 11, place: { to: "shelf" } }],
   branches: [{ branch: 1, pickup: 5, week: "ooooooc", name: "Main" }], "closed-days": [{ day: "2026-12-24" }], kinds: [{ kind: 1, loans: 5, holds: 5, debt: 500 }],
-  rules: [{ kind: 1, copyKind: 2, period: 6, renewals: 1, rate: 20, cap: 100, grace: 3 }], account: [{ line: 1, text: null }], loans: [{ loan: 1 }], till: [{ sort: "fines", amount: 0 }],
+  rules: [{ kind: 1, copyKind: 2, period: 6, renewals: 1, rate: 20, cap: 100, grace: 3 }], account: [{ line: 1, text: null }], loans: [{ loan: 1 }], till: [{ sort: "fines", amount: 0 }], "till-at": [{ sort: "charges", amount: 0 }],
+  borrower: [null, "20000000000001"].map((barcode) => ({ patron: 2, owed: 130, name: "Bo Carr", patronKind: 1, barcode })),
 };
 const toldOf = ({ text, sends, fills, values, shows, about, serves, mode }) => `${text}: ${sends?.join(" ") ?? (fills && [fills, ...Object.entries(values).map((of) => of.join("="))].join(" ")) ?? (shows && `${shows} ${about}`) ?? `${mode} ${serves}`}`;
 const actionsOf = (question) => rowsOf[question].map((row) => actionsOfRow(question, row, { day: "2026-03-08", about: "1", head: { text: "Rivers" } }));
 is(Object.fromEntries(Object.keys(rowsOf).map((question) => [question, actionsOf(question).map((them) => them.map(toldOf).join("; "))])), {
   pulls: ["Missing: missing 11"], transits: ["Missing: missing 11"], debts: ["Pay: pay 2; Waive: waive patron=2 amount=1.30; Account: account 2"], overdue: ["Serve: check-out 2; Missing: missing 11"],
-  shelf: ["Unshelve: unshelve 7", "Cancel: unshelve-cancelled 8"], "find-patrons": ["Serve: check-out 2; Account: account 2; Amend: amend-patron patron=2 name=Bo Carr; New card key: card-key patron=2"],
+  shelf: ["Unshelve: unshelve 7", "Cancel: unshelve-cancelled 8"], "find-patrons": ["Serve: check-out 2; Account: account 2; Charge: charge patron=2; Amend: amend-patron patron=2 name=Bo Carr; New card key: card-key patron=2; New barcode: patron-barcode patron=2; Details: borrower 2"],
+  borrower: ["", "; Drop the barcode: drop-barcode 20000000000001"].map((dropped) => `Serve: check-out 2; Account: account 2; Charge: charge patron=2; Amend: amend-patron patron=2 name=Bo Carr; New card key: card-key patron=2; New barcode: patron-barcode patron=2${dropped}`),
   "find-titles": ["Copies: copies 100; Who waits: queue 100; Amend: amend-title title=100 text=Rivers; Add a copy: acquire title=100 text=Rivers"], queue: ["Cancel: cancel-hold 7"], "missing-copies": ["Withdraw: withdraw 11"],
-  copy: [["Missing: missing 11", "Withdraw: withdraw 11"], ["Missing: missing 11"], ["Withdraw: withdraw 11"], []].map((them) => [...them, "Amend: amend-copy copy=11 kind=1 price=25.00", "New home: rehome copy=11 branch=1", "Loans: loans 11"].join("; ")),
+  copy: [["Missing: missing 11", "Withdraw: withdraw 11"], ["Missing: missing 11"], ["Withdraw: withdraw 11"], []].map((them, at) => [
+    ...them, "Amend: amend-copy copy=11 kind=1 price=25.00", "New home: rehome copy=11 branch=1", "New barcode: copy-barcode copy=11", ...(at === 1 ? ["Drop the barcode: drop-barcode a1"] : []), "Loans: loans 11"].join("; ")),
   copies: ["Missing: missing 11; Withdraw: withdraw 11; Details: copy 11"], branches: ["Amend: amend-branch branch=1 pickup=5 name=Main; Week: week branch=1 mask=ooooooc; Closed days to come: closed-days 1"],
   "closed-days": ["Open on this day: open-day 1 2026-12-24"], kinds: ["Amend: kind kind=1 loans=5 holds=5 debt=5.00; Rules: rules 1"],
-  rules: ["Amend: rule kind=1 period=6 renewals=1 copy-kind=2 rate=0.20 cap=1.00; Grace days: grace kind=1 copy-kind=2 days=3"], account: [""], loans: [""], till: [""],
+  rules: ["Amend: rule kind=1 period=6 renewals=1 copy-kind=2 rate=0.20 cap=1.00; Grace days: grace kind=1 copy-kind=2 days=3"], account: [""], loans: [""], till: [""], "till-at": [""],
 });
 const everyAction = [...Object.keys(rowsOf).flatMap((question) => actionsOf(question).flat()), ...actionsOfLoan({ loan: 1, renewals: 1 }), ...["waiting", "ready"].flatMap((state) => actionsOfHold({ hold: 7, state, text: "Rivers" }, { name: "Bo Carr" })),
   ...actionsOfPatron({ patron: 2, owed: 130, name: "Bo Carr" })];
@@ -89,13 +92,23 @@ is(everyAction.filter(({ sends }) => sends && problemOfWords(sends) !== null), [
 is(everyAction.filter(({ fills, values }) => fills && !Object.keys(values).every((part) => COMMANDS[fills].includes(part))), []);
 is(everyAction.filter(({ shows }) => shows && !QUESTIONS.includes(shows)), []);
 is([actionsOfLoan({ loan: 1, renewals: 0 }), actionsOfHold({ hold: 7, state: "ready", text: "Rivers" }, { name: "Bo" }).map(toldOf), actionsOfPatron({ patron: 2, owed: 0, name: "Bo" }).map(({ text }) => text)],
-  [[], ["Cancel: unshelve-cancelled 7"], ["Account", "Amend", "New card key"]]);
+  [[], ["Cancel: unshelve-cancelled 7"], ["Account", "Charge", "Amend", "New card key", "New barcode", "Details"]]);
 
 // ---- fields: what they are called, what they must be, and what is sent of them
 is(Object.entries(COMMANDS).filter(([name]) => !QUESTIONS.includes(name)).flatMap(([name, parts]) => parts.filter((part) => part !== "loan" && (!labelOfPart(name, part) || !formOf(part)))), []);
 is([labelOfPart("kind", "kind"), labelOfPart("acquire", "kind"), formOf("branch"), formOf("debt"), formOf("amount")], ["Kind of patrons", "Kind of copies", "a number from 1 to 99", "an amount such as 2.50, up to 10000.00", "an amount such as 2.50"]);
 is([["copy", "0"], ["copy", "9999999"], ["copy", "10000000"], ["copy", "1.5"], ["pickup", "0"], ["pickup", "61"], ["rate", "100.00"], ["rate", "100.01"], ["price", "12"], ["day", "2026-02-29"], ["mask", "ccccccc"], ["mask", "ooooooc"], ["name", "-x"],
   ["name", "Ann O'Hara"], ["name", ""], ["card-key", "short"]].map(([part, text]) => problemOfField(part, text) === null), [false, true, false, false, true, false, true, false, false, false, false, true, false, true, false, false]);
+// a charge has limits, a label and a hint of its own
+is([labelOfPart("charge", "text"), labelOfPart("acquire", "text"), formOf("amount", "charge"), formOf("amount", "waive"), formOf("barcode")],
+  ["What it is for", "Title", "an amount such as 2.50, up to 10000.00", "an amount such as 2.50", "1 to 24 letters and digits"]);
+is([["amount", "0.00"], ["amount", "0.01"], ["amount", "10000.00"], ["amount", "10000.01"], ["amount", "250"], ["text", "Photocopies, 10 pages"], ["text", "-x"], ["branch", "1"]].map(([part, text]) => problemOfField(part, text, "charge") === null),
+  [false, true, true, false, false, true, false, true]);
+is(["0.00", "99999.99"].map((text) => problemOfField("amount", text, "waive")), [null, null]);
+is(wordsOfForm("charge", { patron: "2", amount: "2.50", branch: "1", text: "Photocopies, 10 pages" }), ["charge", "2", "250", "1", "Photocopies, 10 pages"]);
+is(["01", "a1", "A-1", "", "a".repeat(25)].map((text) => problemOfField("barcode", text) === null), [true, true, false, false, false]);
+is([["charge", 21], ["charge", 11], ["charge", 10], ["charge", 60], ["charge", 70], ["copy-barcode", 13], ["copy-barcode", 26], ["patron-barcode", 11], ["patron-barcode", 26], ["drop-barcode", 18]].map((of) => partOfRefusal(...of)),
+  ["amount", "patron", "branch", "amount", null, "copy", "barcode", "patron", "barcode", "barcode"]);
 is(problemOfField("copy", "x"), "This should be a number from 1 to 9999999.");
 is(wordsOfForm("acquire", { copy: "10", title: "100", kind: "1", home: "2", price: "25,00", text: "Salt Roads" }), ["acquire", "10", "100", "1", "2", "2500", "Salt Roads"]);
 is([["acquire", 20], ["patron", 20], ["branch", 20], ["acquire", 10], ["week", 10], ["week", 22], ["grace", 16], ["waive", 60], ["patron", 17], ["withdraw", 31], ["close-day", 0]].map((of) => partOfRefusal(...of)),

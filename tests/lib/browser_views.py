@@ -114,7 +114,7 @@ def searching(driver, fake):
     until("his page", lambda: desk.it("patron").is_displayed() and desk.it("patron-head").text.startswith("Di Eck"))
     # a copy is never searched for
     desk.keys("riv", Keys.ENTER)
-    until("no number", lambda: desk.told().startswith("riv: This should be") and desk.is_wrong())
+    until("no barcode", lambda: desk.told() == "riv, patron 4: Nothing has this barcode." and desk.is_wrong())
     need("nothing is asked", [it for it in fake.words() if it.endswith(" riv")], ["find-titles 0 riv"])
 
 
@@ -352,7 +352,8 @@ def for_everybody(driver, fake):
     desk.keys(Keys.ENTER)
     until("the page", lambda: desk.it("patron").is_displayed())
     desk.press("debts")
-    until("an empty list is spoken", lambda: driver.execute_script("return window.spoken").count(["polite", "Patrons who owe: There are none."]) == 1)
+    none = ["polite", "Patrons who owe, all branches: There are none."]
+    until("an empty list is spoken", lambda: driver.execute_script("return window.spoken").count(none) == 1)
     # what is pressed or chosen, in each tab, on a telephone and on a desk
     small = """return [...document.querySelectorAll('button, select, summary, input, [role=option]')].filter((it) => it.checkVisibility()).map((it) => it.closest('label') && ['radio', 'checkbox'].includes(it.type) ? it.closest('label') : it)
         .filter((it) => { const at = it.getBoundingClientRect(); return at.height < 44 || at.width < 44; }).map((it) => it.outerHTML.slice(0, 90))"""
@@ -402,6 +403,10 @@ def patrons_page(driver, fake):
     need("what speaks", driver.execute_script("return [...document.querySelectorAll('[aria-live], [role=status], [role=alert], output')].map((it) => it.ariaLive)"), ["polite", "assertive"])
     enter(page, "C1")
     need("a copy is no card", page.told(), "This is a copy, but a patron's card is expected.")
+    page.type("number", "20000000000001")
+    page.it("number").send_keys(Keys.ENTER)
+    need("nor is a barcode read there", (page.told().rpartition("; ")[2], fake.words()),
+         ("a barcode is read at the desk alone.", []))
     page.type("number", "p1")
     page.it("number").send_keys(Keys.ENTER)
     until("the page", lambda: page.it("page").is_displayed())
@@ -523,11 +528,13 @@ def left_alone(driver, fake):
     desk.mode("check-in")
     desk.keys("11", Keys.ENTER, "12", Keys.ENTER, "2")
 
-    line = "Nothing was done here for 10 minutes. What waits is still sent. The desk key opens the page again."
+    line = ("Nothing was done here for 10 minutes. What waits is still sent. The desk key opens the page again; "
+            "another clerk signs out first.")
     driver.execute_script(ahead)
     until("it is covered", lambda: desk.it("cover-told").text == line)
     need("nothing else is shown", (desk.it("main").is_displayed(), sorted(desk.names()), desk.focus()),
-         (False, [("button", "Go on"), ("textbox", "Desk key")], "cover-key"))
+         (False, [("button", "Go on"), ("button", "Sign out for another clerk"), ("textbox", "Desk key")],
+          "cover-key"))
     need("it fits a telephone", desk.fits(320), True)
     late.set()
     came = lambda: [it for it in fake.words() if it.startswith("check-in")]
@@ -557,6 +564,103 @@ def left_alone(driver, fake):
     until("a scan", lambda: "check-in 15 1" in fake.words())
     time.sleep(1.5)
     need("it stays open", desk.it("desk").is_displayed(), True)
+    left_to_another(driver, fake, desk)
+
+
+def left_to_another(driver, fake, desk):
+    """A covered desk is left to another clerk: what waits is kept for the one who scanned it, and nothing of it is
+    shown or sent meanwhile."""
+    driver.execute_script("window.confirm = () => true; Date.now = (now => () => now() + 1200000)(Date.now)")
+    never = threading.Event()
+    fake.says(answers({"check-in 16": reply("fine 0 shelf 1", never), "check-in": reply("fine 0 shelf 1")}))
+    until("it is covered", lambda: desk.it("cover").is_displayed())
+    desk.keys("deskkey00001", Keys.ENTER)
+    until("it is open", lambda: desk.it("desk").is_displayed())
+    desk.keys("16", Keys.ENTER, "17", Keys.ENTER)
+    until("the first is on its way", lambda: fake.words() == ["check-in 16 1"])
+    driver.execute_script("Date.now = (now => () => now() + 1200000)(Date.now)")
+    until("it is covered again", lambda: desk.it("cover").is_displayed())
+    desk.it("cover-leave").click()
+    until("it is left", lambda: desk.told().startswith("Signed out. What was waiting is kept on this machine"))
+    need("for the next one to sign in",
+         (desk.it("cover").is_displayed(), desk.it("desk").is_displayed(), desk.stored(), desk.focus()),
+         (False, False, {}, "desk-key"))
+    desk.sign_in("1", "deskkey00002")
+    until("another clerk", lambda: desk.it("desk").is_displayed())
+    need("has nothing of it", (desk.it("queue").is_displayed(), fake.words()), (False, ["check-in 16 1"]))
+    never.set()
+    desk.it("sign-out").click()
+    desk.sign_in("1", "deskkey00001")
+    until("the first clerk is asked", lambda: desk.items("waiting") == ["copy 16", "copy 17"])
+    desk.it("send-on").click()
+    until("both come in", lambda: desk.told().startswith("Tides: To the shelf") and "check-in 17 1" in fake.words())
+    need("the first one under its key", len({key for what, key in fake.sent if what == "check-in 16 1"}), 1)
+
+
+def labels_and_charges(driver, fake):
+    """A charge and a barcode are entered by forms that open from a panel and tell what is wrong at their fields; a
+    till is headed as what it is, and a label that is looked up finds its copy."""
+    desk, day = Desk(driver, fake.url, 1), fake.day
+    carr, roads = "patron 2 owed 0 name Bo Carr", "copy 20 home 1 kind 1 price 1200 title 200 Salt Roads\nshelf 1"
+    fake.says(answers({"page 2": reply(carr), "borrower 2": reply(f"{carr}\nkind 1"), "charge 2": reply("owed 250"),
+                       "patron-barcode 2": [refusal(26), reply("ok")], "find-barcode 30000100000020": reply("copy 20"),
+                       "copy 20": reply(f"{roads}\nbarcode 30000100000020"), "drop-barcode": reply("ok"),
+                       f"till-at 1 {day}": reply(f"till {day} at 1\npayments 100\ncharges 250"),
+                       f"till {day}": reply(f"till {day}\nfines 0\nprices 0\npayments 300\nwaivers 0\ncharges 250")}))
+
+    def press(name):
+        desk.shown(driver.find_element(By.CSS_SELECTOR, f'[aria-label="{name}"]')).click()
+
+    def submit(command):
+        desk.it(f"form-{command}").find_element(By.CSS_SELECTOR, "form > button").click()
+
+    def confirm(question, words):
+        until(question, lambda: desk.told() == question and desk.it("again").is_displayed())
+        need("nothing is sent yet", words in fake.words(), False)
+        time.sleep(0.7)
+        desk.it("again").click()
+        until(words, lambda: words in fake.words() and not desk.it("queue").is_displayed())
+    desk.keys("2", Keys.ENTER)
+    until("the panel", lambda: desk.it("patron").is_displayed())
+    press("Charge: Bo Carr")
+    need("the form, with the patron and the branch of the desk",
+         [desk.it(f"charge-{it}").get_attribute("value") for it in ("patron", "amount", "branch", "text")], ["2", "", "1", ""])
+    need("what is filled in next", desk.focus(), "charge-amount")
+    names = [it for it in desk.names() if it[1] == "What it is for"]
+    need("what a screen reader hears", names, [("textbox", "What it is for")])
+    desk.type("charge-amount", "250")
+    desk.type("charge-text", "Photocopies")
+    submit("charge")
+    need("at the field", desk.it("charge-amount-problem").text, "This should be an amount such as 2.50, up to 10000.00.")
+    desk.type("charge-amount", "2.50")
+    submit("charge")
+    confirm("Charge Bo Carr 2.50 for Photocopies?", "charge 2 250 1 Photocopies")
+    until("the receipt", lambda: desk.items("receipt") == ["Photocopies: 2.50 charged at branch 1, now owed 2.50"])
+    # a first barcode is sent at once, and one that something else has is told at its field
+    press("New barcode: Bo Carr")
+    for barcode, problem in (("A-1", "This should be 1 to 24 letters and digits."),
+                             ("A1", "Another copy or patron has this barcode."), ("A2", "")):
+        desk.type("patron-barcode-barcode", barcode)
+        submit("patron-barcode")
+        until(f"{barcode} at the field", lambda: desk.it("patron-barcode-barcode-problem").text == problem)
+    until("it is given", lambda: "patron-barcode 2 A2" in fake.words())
+    # both tills
+    desk.go_on()
+    for question, head, place, sums in (
+        ("till-at", f"Till of branch 1, {day}", f"branch 1, {day}", ["payments 1.00", "charges 2.50"]),
+        ("till", f"Till of all branches, {day}", f"Town library, {day}",
+         ["fines 0.00", "prices 0.00", "payments 3.00", "waivers 0.00", "charges 2.50"]),
+    ):
+        desk.press(question)
+        until(head, lambda: desk.it("list-head").text == head)
+        shown = [it.text for it in desk.it("list-rows").find_elements(By.TAG_NAME, "tr")]
+        need("its place and its sums", (desk.it("list-place").text, shown), (place, sums))
+    # a label that is looked up
+    desk.type("looked", "30000100000020")
+    desk.press("copy")
+    until("the copy with its label", lambda: "30000100000020" in desk.it("list-rows").text)
+    press("Drop the barcode: Salt Roads")
+    confirm("Drop the barcode 30000100000020 of Salt Roads?", "drop-barcode 30000100000020")
 
 
 def lends_alone(driver, fake):

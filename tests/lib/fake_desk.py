@@ -42,6 +42,8 @@ def answers(table, seconds=0.0):
             return UNKNOWN
         if what == "branches 0":
             return reply(BRANCHES)
+        if what.startswith("find-barcode "):
+            return refusal(18)
         if what.startswith("shelf "):
             return reply("      hold    copy  patron until      title\nend", seconds)
         if what.startswith("copy "):
@@ -55,8 +57,8 @@ def answers(table, seconds=0.0):
 class FakeDesk:
     """`answer(what)` gives a time, a status and a body for the words of a desk's request, or for the method and the
     path of a patron's; `sent` is what came. A time is in seconds, or an event that is waited for. The library's day
-    and its branches are asked at any time, so they aren't among what came; the day is answered where a test
-    doesn't."""
+    and its branches are asked at any time, and whose a barcode is before each scan, so they aren't among what came;
+    the day is answered where a test doesn't."""
 
     def __init__(self, pages):
         self.files = []  # the paths of files that were asked for
@@ -96,7 +98,7 @@ class Handler(BaseHTTPRequestHandler):
         self.asked(" ".join(json.loads(body)) if self.path == "/desk" else f"POST {self.path} {body}".strip())
 
     def asked(self, what):
-        if what not in ("today", "branches 0"):
+        if what not in ("today", "branches 0") and not what.startswith("find-barcode "):
             self.fake.sent.append((what, self.headers["Request-Key"]))
         answer = self.fake.answer(what)
         if what == "today" and answer == UNKNOWN:

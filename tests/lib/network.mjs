@@ -10,13 +10,18 @@ export class Kept {
   key(at) { return [...this.all.keys()][at]; }
 }
 
+const NOBODYS = [0, 409, '{"refusal":18}'];
+
 // `answers` are [milliseconds, status, text], in turn, or a function from the body that is sent to one; a status of null is no answer at all, and a text of
-// null one that is cut off.
-export function network(answers) {
-  const sent = [];
+// null one that is cut off. Whose a barcode is is asked before each scan: it is noted apart, as `barcodes`, and answered by a function from the barcode, or as nobody's.
+export function network(answers, answerOf = () => NOBODYS) {
+  const sent = Object.defineProperty([], "barcodes", { value: [] });
   globalThis.fetch = async (path, { headers, body, signal }) => {
-    const [milliseconds, status, text] = (typeof answers === "function" ? answers(body, sent.length) : answers[sent.length]) ?? [60_000];
-    sent.push([path, headers["Request-Key"], headers["Desk-Key"], body]);
+    const [question, barcode] = path === "/desk" ? JSON.parse(body) : [];
+    const isBarcode = question === "find-barcode";
+    const [milliseconds, status, text] = (isBarcode ? answerOf(barcode, sent.barcodes.length) : typeof answers === "function" ? answers(body, sent.length) : answers[sent.length]) ?? [60_000];
+    if (isBarcode) sent.barcodes.push(barcode);
+    else sent.push([path, headers["Request-Key"], headers["Desk-Key"], body]);
     await new Promise((done, failed) => {
       const end = () => { clearTimeout(timer); failed(new Error("aborted")); };
       const timer = setTimeout(() => { signal?.removeEventListener("abort", end); done(); }, milliseconds);

@@ -142,7 +142,7 @@ class Known:
             self.borrowers[parts[1]] = parts[0]
         elif name in ("check-in", "missing") and answer.startswith("fine "):
             self.owed[self.borrowers.get(parts[0])] = self.owing(parts[0], answer)
-        elif name in ("pay", "waive") and answer.startswith("owed "):
+        elif name in ("pay", "waive", "charge", "pay-at") and answer.startswith("owed "):
             self.owed[parts[0]] = int(answer.split()[1])
         ready = re.search(r"ready (\d+) at \d+ until (\S+)", answer)
         if ready:
@@ -174,15 +174,20 @@ FORMS = [
     (r"owed (\d+)", lambda owed: f"Still owed: {dollars(owed)}."),
     (r"fine (\d+) price (\d+)", lambda fine, price: f"Fine {dollars(fine)}, price {dollars(price)}."),
     (r"transit (\d+)", lambda branch: f"In transit to {BRANCHES[branch]}."),
-    (r"patron (\d+) owed (\d+) name (.*)\nkind (\d+)", lambda patron, owed, name, kind: f"Patron {patron}, {name}: kind {kind}, owes {dollars(owed)}."),
+    (r"patron (\d+) owed (\d+) name (.*)\nkind (\d+)(?:\nbarcode (.*))?",
+     lambda patron, owed, name, kind, barcode: f"Patron {patron}, {name}: kind {kind}, owes {dollars(owed)}."
+     + (f" Barcode {barcode}." if barcode else "")),
+    (r"(copy|patron) (\d+)", lambda of, number: f"This is the barcode of {of} {number}."),
 ]
-LISTED = ("pulls", "shelf", "overdue", "transits", "debts", "account", "till", "missing-copies", "loans", "rules", "find-patrons", "find-titles")
+OF_BRANCH = ("pulls", "shelf", "overdue", "transits", "till-at")
+LISTED = (*OF_BRANCH, "debts", "account", "till", "missing-copies", "loans", "rules", "find-patrons", "find-titles")
 
 
 def typed(line):
     """A line of the program as it is typed on the page: amounts as they are shown there."""
     name, *words = re.findall(r"'[^']*'|\S+", line)
-    at = {"kind": [3], "rule": [4, 5], "acquire": [4], "amend-copy": [2], "pay": [1], "waive": [1]}.get(name, [])
+    of_one = dict.fromkeys(("pay", "waive", "charge", "pay-at"), [1])
+    at = {"kind": [3], "rule": [4, 5], "acquire": [4], "amend-copy": [2], **of_one}.get(name, [])
     return " ".join([name, *(dollars(word) if place in at else word for place, word in enumerate(words))])
 
 
@@ -202,6 +207,13 @@ def page_shown(answer):
     return f"Patron {patron}, {name}: {loans} on loan, {holds} on hold, owes {dollars(owed)}."
 
 
+def of_account(line, day, sort, cents, at, what, text):
+    """A row of an account. What the day has paid with no place is paid at the counter of the page, which is Main."""
+    at = "1" if sort == "payment" and at is None else at
+    place = f" at {BRANCHES[at]}" if at else ""
+    return f"{line} {day} {sort}{place} {dollars(cents)} {what or text or ''}".strip()
+
+
 def cells(question, answer):
     """The rows that a list shows for an answer."""
     forms = {
@@ -210,7 +222,7 @@ def cells(question, answer):
         "shelf": (r" *(\d+) +(\d+) +(\d+) (\S+) (.*)", lambda *them: " ".join(them)),
         "overdue": (r" *(\d+) +(\d+) +(\d+) (\S+) +(\d+) (.*)", lambda *them: " ".join(them)),
         "debts": (r"patron (\d+) owed (\d+) name (.*)", lambda patron, owed, name: f"{patron} {name} {dollars(owed)}"),
-        "account": (r"line (\d+) (\S+) (\w+) (\d+)(?: loan \d+ title \d+ (.*))?", lambda line, on, sort, cents, text: f"{line} {on} {sort} {dollars(cents)} {text or ''}".strip()),
+        "account": (r"line (\d+) (\S+) (\w+) (\d+)(?: at (\d+))?(?: for (.*))?(?: loan \d+ title \d+ (.*))?", of_account),
         "till": (r"(\w+) +(\d+)", lambda sort, cents: f"{sort} {dollars(cents)}"),
         "missing-copies": (r"copy (\d+) home (\d+) title (\d+) (.*)", lambda copy, home, title, text: f"{copy} {text} {title} {BRANCHES[home]}"),
         "loans": (r"loan (\d+) patron (\d+) made (\S+) due (\S+)(?: ended (\S+))?", lambda *them: " ".join(it for it in them if it)),
@@ -218,9 +230,9 @@ def cells(question, answer):
         "find-patrons": (r"patron (\d+) owed (\d+) name (.*)", lambda patron, owed, name: f"{patron} {name} {dollars(owed)}"),
         "find-titles": (r"title (\d+) (.*)", lambda title, text: f"{title} {text}"),
     }
-    form, made = forms[question]
+    form, made = forms["till" if question == "till-at" else question]
     lines = answer.split("\n")
-    headless = lines[1:] if question in ("shelf", "overdue", "account", "till") else lines
+    headless = lines[1:] if question in ("shelf", "overdue", "account", "till", "till-at") else lines
     return [made(*re.fullmatch(form, line).groups()) for line in headless if line != "end"]
 
 
@@ -325,10 +337,10 @@ class Clerk:
 
     def listed(self, line, answer, question, *parts):
         """A question that has a list: by its button, at the desk of its branch."""
-        desk = self.at(parts[0]) if question in ("pulls", "shelf", "overdue", "transits") else self.desk
-        if question == "till":
-            self.driver.execute_script("arguments[0].value = arguments[1]", desk.it("till-day"), parts[0])
-            desk.press("till")
+        desk = self.at(parts[0]) if question in OF_BRANCH else self.desk
+        if question in ("till", "till-at"):
+            self.driver.execute_script("arguments[0].value = arguments[1]", desk.it("till-day"), parts[-1])
+            desk.press(question)
         elif question in ("account", "loans"):
             desk.type(*(("looked-patron", f"P{parts[0]}") if question == "account" else ("looked", f"C{parts[0]}")))
             desk.press(question)
@@ -345,7 +357,7 @@ class Clerk:
         rows = desk.items("list-rows")
         # a list on the page begins at its beginning, so of an account that is asked for from a line on it shows the
         # lines before too
-        need(line, rows[-len(found):] if parts[-1:] == ("1",) and question == "account" else rows, found)
+        need(line, rows[-len(found):] if question == "account" and parts[-1] != "0" else rows, found)
 
     def copy(self, line, answer, copy):
         self.desk.type("looked", copy)

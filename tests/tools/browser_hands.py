@@ -19,6 +19,8 @@ from lib import browser_views as views
 from lib.browsing import Desk, Failed, Page, browser, complaints, counts, enter, need, rows, until
 from lib.fake_desk import NOTHING, PAGE, FakeDesk, answers, refusal, reply
 
+CARD_ASKED = "Scan the card, or type the patron's number or a part of the name."
+
 
 def fast_scans(driver, fake):
     """A card and two copies are scanned before the first answer comes, and copies come in as fast as keys can be
@@ -241,13 +243,23 @@ def scanners(driver, fake):
     need("each by itself, for one patron", [it for it in fake.words() if it.startswith("check-out")], [f"check-out 4 {it} 1" for it in range(1, 10)])
     driver.execute_script("const data = new DataTransfer(); data.setData('text', '20\\r\\n21\\n'); document.getElementById('scan').dispatchEvent(new ClipboardEvent('paste', {clipboardData: data, cancelable: true}))")
     until("what is put in together", lambda: "check-out 4 21 1" in fake.words() and "check-out 4 20 1" in fake.words())
-    desk.keys("P5", Keys.ENTER, "30", Keys.ENTER)
-    until("a card in the place of a copy", lambda: desk.told() == "P5: This is a patron's card, but a copy is expected." and desk.is_wrong())
-    need("what follows it waits", desk.items("waiting"), ["copy 30, patron 4"])
-    desk.it("throw-away").click()
+    # the card of another patron, and then labels of both: whose they are is asked in their turn
+    fake.says(answers({"page 5": reply("patron 5 owed 0 name Ed Fox"), "check-out": reply("loan 1 due 2026-03-09"),
+                       "find-barcode 20000000000005": reply("patron 5", 0.3),
+                       "find-barcode 30000100000030": reply("copy 30")}))
+    desk.keys("20000000000005", Keys.ENTER, "30000100000030", Keys.ENTER, "31", Keys.ENTER)
+    need("until then they are as they were scanned", desk.items("waiting")[1:],
+         ["30000100000030, patron 4", "copy 31, patron 4"])
+    until("a card at the panel of another patron", lambda: "check-out 5 31 1" in fake.words())
+    need("each for the new one", [it for it in fake.words() if it.startswith("check-out")],
+         ["check-out 5 30 1", "check-out 5 31 1"])
+    until("whose panel is shown", lambda: desk.it("patron-head").text.startswith("Ed Fox"))
+    desk.keys("20000000000009", Keys.ENTER)
+    until("nobody's label", lambda: desk.told() == "20000000000009, patron 5: Nothing has this barcode.")
+    desk.go_on()
     fake.says(answers({}))
     desk.it("next").click()
-    need("a patron is wanted", desk.it("asked").text, "Scan or type the patron's number, or a part of the name.")
+    need("a patron is wanted", desk.it("asked").text, CARD_ASKED)
     desk.keys("C20", Keys.ENTER)
     until("a copy in the place of a card", lambda: desk.told() == "C20: This is a copy, but a patron's card is expected.")
     need("nothing is sent", fake.sent, [])
@@ -255,14 +267,14 @@ def scanners(driver, fake):
     desk.keys("99", Keys.ENTER)
     until("a refused patron", lambda: desk.is_wrong() and desk.told().startswith("patron 99: "))
     need("why", desk.told(), "patron 99: There is no such copy.")
-    need("isn't the current one", desk.it("asked").text, "Scan or type the patron's number, or a part of the name.")
+    need("isn't the current one", desk.it("asked").text, CARD_ASKED)
 
 
 def hands_at_the_desk(driver, fake):
     """Wherever the hands of a clerk were, the next scan goes to its line, and much money is taken once the clerk says
     so."""
     desk = Desk(driver, fake.url, 1)
-    fake.says(answers({"check-in": reply("fine 0 shelf 1"), "pay": reply("owed 0")}))
+    fake.says(answers({"check-in": reply("fine 0 shelf 1"), "pay-at": reply("owed 0")}))
     ActionChains(driver).key_down(Keys.ALT).send_keys("2").key_up(Keys.ALT).perform()
     need("the focus after Alt and 2", desk.focus(), "scan")
     ActionChains(driver).send_keys("11", Keys.ENTER).key_down(Keys.ALT).send_keys("1").send_keys("2").key_up(Keys.ALT).send_keys("16", Keys.ENTER).perform()
@@ -281,7 +293,7 @@ def hands_at_the_desk(driver, fake):
     until("a scan after that", lambda: "check-in 13 1" in fake.words())
     # words that are being typed aren't torn apart by an answer
     late = threading.Event()
-    fake.says(answers({"check-in": reply("fine 0 shelf 1", late), "pay": reply("owed 0")}))
+    fake.says(answers({"check-in": reply("fine 0 shelf 1", late), "pay-at": reply("owed 0")}))
     desk.keys("14", Keys.ENTER)
     desk.field("words").send_keys("check-")
     late.set()
@@ -296,16 +308,16 @@ def hands_at_the_desk(driver, fake):
     need("nothing is paid yet, and a scanner's Enter pays nothing", (desk.focus(), [it for it in fake.words() if it.startswith("pay")]), ("scan", []))
     desk.keys(Keys.ENTER)
     desk.it("again").click()
-    until("both are paid", lambda: [it for it in fake.words() if it.startswith("pay")] == ["pay 4 6000", "pay 4 50"])
+    until("both are paid", lambda: [it for it in fake.words() if it.startswith("pay")] == ["pay-at 4 6000 1", "pay-at 4 50 1"])
     desk.keys("12345", Keys.ENTER)
-    until("a number is no amount", lambda: desk.told() == "12345: This should be an amount such as 2.50.")
+    until("a number is no amount", lambda: desk.told() == "12345, patron 4: This should be an amount such as 2.50.")
     need("it isn't sent", len([it for it in fake.words() if it.startswith("pay")]), 2)
 
 
 def loaded_anew(driver, fake):
     """A tab that is loaded anew has the patron and the mode that were there, and nobody after Next patron."""
     desk = Desk(driver, fake.url, 1)
-    fake.says(answers({"pay": reply("owed 0"), "check-out": reply("loan 1 due 2026-03-09")}))
+    fake.says(answers({"pay-at": reply("owed 0"), "check-out": reply("loan 1 due 2026-03-09")}))
 
     def again():
         driver.refresh()
@@ -317,13 +329,13 @@ def loaded_anew(driver, fake):
     desk.mode("pay")
     need("while paying", again(), ("pay", "Patron 4: type the amount paid, such as 2.50."))
     desk.keys("0.50", Keys.ENTER)
-    until("it is paid", lambda: "pay 4 50" in fake.words())
+    until("it is paid", lambda: "pay-at 4 50 1" in fake.words())
     desk.mode("renew")
     need("while renewing", again(), ("renew", "Scan a copy to renew."))
     desk.it("next").click()
     need("nobody after Next patron", again(), ("renew", "Scan a copy to renew."))
     desk.mode("check-out")
-    need("nor in the next mode", again(), ("check-out", "Scan or type the patron's number, or a part of the name."))
+    need("nor in the next mode", again(), ("check-out", CARD_ASKED))
     desk.keys("1", Keys.ENTER)
     until("the next page", lambda: "page 1" in fake.words() and desk.it("patron").is_displayed())
     desk.mode("check-in")
@@ -499,7 +511,7 @@ def next_patron(driver, fake):
     # two patrons within half a second, before the first answer
     keys = alt_n(ActionChains(driver).send_keys("1", Keys.ENTER, "31", Keys.ENTER))
     alt_n(keys.send_keys("4", Keys.ENTER, "32", Keys.ENTER)).perform()
-    need("a patron is wanted", (desk.it("asked").text, desk.focus()), ("Scan or type the patron's number, or a part of the name.", "scan"))
+    need("a patron is wanted", (desk.it("asked").text, desk.focus()), (CARD_ASKED, "scan"))
     until("all is sent", lambda: lent() == ["page 1", "check-out 1 31 1", "page 1", "page 4", "check-out 4 32 1", "page 4"] and not desk.it("queue").is_displayed())
     # a refusal comes between pressing and letting go
     fake.says(answers(slow))
@@ -510,7 +522,7 @@ def next_patron(driver, fake):
     late.set()
     until("a refusal", lambda: desk.is_wrong())
     ActionChains(driver).release().perform()
-    need("it counts", (desk.it("asked").text, desk.focus(), desk.it("patron").is_displayed()), ("Scan or type the patron's number, or a part of the name.", "scan", False))
+    need("it counts", (desk.it("asked").text, desk.focus(), desk.it("patron").is_displayed()), (CARD_ASKED, "scan", False))
     need("what stopped the rest stays", desk.told().startswith("copy 33, patron 1: Another patron is waiting for this title."), True)
     desk.go_on()
     # what is left in the line isn't glued to the next card
@@ -524,12 +536,13 @@ def next_patron(driver, fake):
     # from another field, and by the keyboard alone
     desk.field("words").send_keys("check-")
     alt_n(ActionChains(driver)).perform()
-    need("from another field", (desk.it("asked").text, desk.focus(), desk.it("words").get_attribute("value")), ("Scan or type the patron's number, or a part of the name.", "scan", "check-"))
+    need("from another field", (desk.it("asked").text, desk.focus(), desk.it("words").get_attribute("value")),
+         (CARD_ASKED, "scan", "check-"))
     desk.keys("4", Keys.ENTER, Keys.TAB)
     desk.keys(Keys.TAB)
     need("the button has the focus", desk.focus(), "next")
     desk.keys(Keys.ENTER)
-    need("by Enter", (desk.it("asked").text, desk.focus()), ("Scan or type the patron's number, or a part of the name.", "scan"))
+    need("by Enter", (desk.it("asked").text, desk.focus()), (CARD_ASKED, "scan"))
 
 
 def closed_pages(driver, fake):
@@ -703,10 +716,12 @@ def lists(driver, fake):
     # two lists are asked for, and the first is answered last
     for value in ("pulls", "debts"):
         desk.press(value)
-    until("none, in one line", lambda: desk.it("list-told").text == "Patrons who owe: There are none.")
+    until("none, in one line", lambda: desk.it("list-told").text == "Patrons who owe, all branches: There are none.")
     late.set()
     time.sleep(0.5)
-    need("the list that was asked for last, without a table", (desk.it("list-told").text, desk.it("list-paper").is_displayed(), rows(desk)), ("Patrons who owe: There are none.", False, []))
+    need("the list that was asked for last, without a table",
+         (desk.it("list-told").text, desk.it("list-paper").is_displayed(), rows(desk)),
+         ("Patrons who owe, all branches: There are none.", False, []))
     for value, told in (("transits", "There is no such branch."), ("overdue", "This page can't read the answer (status 200). It is not known whether the request was carried out.")):
         desk.press(value)
         until(told, lambda: desk.it("list-told").text == told)
@@ -792,7 +807,7 @@ def slips(driver, fake):
 def another_day(driver, fake):
     """A day that isn't the machine's is begun by a typed yes alone; for an amount the same button has no field."""
     desk = Desk(driver, fake.url, 1)
-    fake.says(answers({"begin-day": reply("ok"), "pay": reply("owed 0")}))
+    fake.says(answers({"begin-day": reply("ok"), "pay-at": reply("owed 0")}))
     desk.type("words", "begin-day 2190-12-31")
     desk.field("words").send_keys(Keys.ENTER)
     until("it is asked", lambda: desk.is_wrong() and desk.told().endswith("To begin 2190-12-31, type yes. If not, go on without it."))
@@ -814,12 +829,12 @@ def another_day(driver, fake):
     need("no field", (desk.it("typed").is_displayed(), desk.it("typed").get_attribute("value")), (False, ""))
     time.sleep(0.7)
     desk.it("again").click()
-    until("it is paid", lambda: "pay 4 5001" in fake.words())
+    until("it is paid", lambda: "pay-at 4 5001 1" in fake.words())
     need("320 pixels", desk.fits(320), True)
 
 
-PARTS = (views.tabs, views.searching, views.acting, views.lends_alone, views.left_alone, views.icon, views.on_paper,
-         views.german, views.for_everybody, views.patrons_page, views.calendar_of_year, lists, past_their_day,
+PARTS = (views.tabs, views.searching, views.acting, views.labels_and_charges, views.lends_alone, views.left_alone,
+         views.icon, views.on_paper, views.german, views.for_everybody, views.patrons_page, views.calendar_of_year, lists, past_their_day,
          slips, fast_scans, refused_scans,
          unread_answers, receipts, signed_out, telephone, opening, scanners, hands_at_the_desk, another_day,
          loaded_anew, nobody_stays, panel_of_now, library_day, names, next_patron, closed_pages,
