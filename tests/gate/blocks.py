@@ -37,6 +37,26 @@ STARTED = ("circ.service", "circ-day.timer", "circ-watch.timer", "circ-backup.ti
 INDEXES = ("copies_title", "lines_patron", "holds2_state", "loans3_of_copy", "copies_condition")
 MADE = r".*: there was no library; a new one was made\n"
 LENT = "ok\n" * 6 + "loan 1 due 2026-03-09\n"
+TOWN = {
+    "borrowers": "borrowernumber,cardnumber,surname,firstname,branchcode,categorycode\n"
+                 "7,20000000000007,Bell,Ann,MAIN,ADULT\n",
+    "items": "itemnumber,biblionumber,barcode,homebranch,itype,title,author,replacementprice,itemlost,withdrawn\n"
+             "10,100,30000000000010,MAIN,BK,Rivers,,25.00,0,0\n11,100,,MAIN,BK,Rivers,,25.00,0,0\n",
+    "issues": "borrowernumber,itemnumber,branchcode,issuedate,date_due,renewals_count\n"
+              "7,10,MAIN,2026-03-01 10:00:00,2026-03-15 23:59:00,0\n",
+    "reserves": "reserve_id,borrowernumber,biblionumber,branchcode,priority,found,itemnumber,reservedate,suspend,"
+                "suspend_until\n",
+    "accountlines": "accountlines_id,borrowernumber,date,description,amountoutstanding,branchcode\n"
+                    "1,7,2026-02-01,Overdue,1.50,MAIN\n",
+}
+TABLE = """\
+day 2026-03-02
+branch MAIN 1 5 Main
+patrons ADULT 1 5 5 500
+copies BK 1
+rule 1 1 28 2 20 1000 0
+week 1 ooooooo
+"""
 
 
 def read(path):
@@ -164,7 +184,7 @@ def used(page, typing, circ):
     typing.types(page.block("find-patrons 0 'bell an'"), found)
     typing.types(page.block("q branches 0"), r"branch 1 .*Main Hall\nend\nend\nkind 1 .*\nend\nrule 1 1 .*\nend\n")
     typing.types(page.block("q missing-copies 0"), r"end\nloan 1 .*\nend\n")
-    typing.types(page.block("report town.db overdue 1"), r"(?:.*\n)*sound\nschema 3\n")
+    typing.types(page.block("report town.db overdue 1"), r"(?:.*\n)*sound\nschema 4\n")
     write(f"{typing.folder}/copies.csv", page.block("copy,title,text"))
     typing.types(f"{circ} import day.db copies.csv", "row 1 ok\nrow 2 ok\naccepted 2 refused 0\n")
     with typing.serving(page.block("day.db 8080 4 250 deskkey00001")):
@@ -193,6 +213,7 @@ def kept(page, typing, installs, upgrade, *others):
     typing.is_up()
     for words in ("kind 1 5 5 500", "branch 1 5 Main", "patron 4 1 cardkey00004 'Ann Bell'"):
         typing.sends(words)
+    part(moved_in, page, typing)
     part(new_clerk, page, typing)
     part(self_service, page, typing)
     for other in others:
@@ -211,9 +232,9 @@ def kept(page, typing, installs, upgrade, *others):
     typing.sends("kinds 0", r'\{"reply":"kind 1 [^"]*500\\nend"\}\n')
     for line in page.block("amend-patron 4").splitlines():
         typing.sends(line)
-    typing.types(page.block("circ-forget"), rf"{made}3 requests were removed\n")
+    typing.types(page.block("circ-forget"), rf"{made}3 requests and 0 texts were removed\n")
     typing.is_up()
-    typing.types(upgrade(page.block("circ migrate")), r"(?:.*\n)*schema 3\n")
+    typing.types(upgrade(page.block("circ migrate")), r"(?:.*\n)*schema 4\n")
     typing.is_up()
     part(indexes, page, typing)
     line, included = page.block("proxy_set_header Desk-Key"), "include /etc/circ/health.key;"
@@ -227,6 +248,30 @@ def at_home(typing):
     text = read(path)
     check("the place that it names", text.count("\nlibrary=/var/lib/circ/town.db\n"), 1)
     write(path, text.replace("\nlibrary=/var", f"\nlibrary={typing.at('/var')}"), 0o755)
+
+
+def moved_in(page, typing):
+    """A town of Koha moves into a new library and gets a label; then the library of before is back."""
+    folder, moved = typing.at("/var/lib/circ"), "1 patrons, 2 copies, 1 loans, 0 holds, 1 debts; 0 rows are told\n"
+    os.makedirs(f"{typing.folder}/koha")
+    for name, text in TOWN.items():
+        write(f"{typing.folder}/koha/{name}.csv", text)
+    reads = page.block("circ-move-in koha\n")
+    typing.types(reads, "koha/table.txt is made: fill it in\n")
+    write(f"{typing.folder}/koha/table.txt", TABLE)
+    typing.types(reads, moved)
+    typing.types("systemctl stop circ")
+    os.rename(folder, f"{folder}.before")
+    os.mkdir(folder)
+    typing.types(page.block("circ-create /var/lib/circ/town.db 2024"), rf"{folder}/town\.db: a new library, whose day is 2024-01-01\n{moved}")
+    write(f"{typing.folder}/labels.csv", "copy,barcode\n11,0011\n")
+    typing.types(page.block("circ-label"), "accepted 1 refused 0\n")
+    typing.sends("find-barcode 0011", r'\{"reply":"copy 11"\}\n')
+    typing.types("systemctl stop circ\ncirc audit /var/lib/circ/town.db", "sound\n")
+    shutil.rmtree(folder)
+    os.rename(f"{folder}.before", folder)
+    typing.types("systemctl start circ")
+    typing.is_up()
 
 
 def new_clerk(page, typing):
