@@ -34,6 +34,7 @@ from reference.desk_rules import Library
 from migrate import DONE, HOLDS, led_up, schema_of, stages, with_many_rows
 
 STEP = 64 * 1024
+PAGE = 4096  # bytes of a page of a library's file
 SAMPLE = 24  # how many limits of the system are tried where not each is
 TESTS = f"{TOP}/crates/desk_tests/out/desk_tests_tests"
 SCRIPTS = "refusals::scripts_go_on_after_refused_memory"
@@ -414,10 +415,10 @@ def begins(limit):
     return under(["nothing"], resource.RLIMIT_AS, limit).stdout == b"words not understood\n"
 
 
-def least(holds, low, high):
+def least(holds, low, high, step=STEP):
     """The least multiple of a step between the two for which something holds, which goes on to hold above it."""
-    while high - low > STEP:
-        middle = (low + high) // 2 // STEP * STEP
+    while high - low > step:
+        middle = (low + high) // 2 // step * step
         low, high = (low, middle) if holds(middle) else (middle, high)
     return high
 
@@ -619,7 +620,13 @@ def disk_of_a_migration(folder, everything):
     for name in HOLDS:
         base, path, told = os.path.join(folder, f"{name}.db"), os.path.join(folder, "narrow.db"), Counter()
         words, ends, size = ["migrate", path], [it for it in ends_of(base) if it[0] != "fault 90\n"], os.path.getsize(base)
-        for limit in chosen(range(4096, 4 * size, 16 * 1024), everything):
+
+        def is_made(limit):
+            copied(base, path)
+            return under(words, resource.RLIMIT_FSIZE, limit).returncode == 0
+
+        enough = least(is_made, 0, 4 * size, PAGE)
+        for limit in chosen(range(PAGE, enough + enough // 2, PAGE), everything):
             copied(base, path)
             run = under(words, resource.RLIMIT_FSIZE, limit)
             out, found = run.stdout.decode(), whole(path)
