@@ -115,7 +115,7 @@ FailsFirst Law found = MatchOption found ((n : ℕ) → Law n) (λ n. IsLeastBro
 
 -- The tables were audited.
 pub record Audits (t : Tables) (result : Result (Unit {0}) Finding) : Type 0 where
-  -- they are found sound exactly if they keep the three laws
+  -- they are found sound exactly if they keep the five laws
   pub sound : (result ≡ Ok tt) ↔ IsSound t
   -- a finding is given exactly if it is the first broken law
   pub found : (finding : Finding) → (result ≡ Err finding) ↔ IsFirstBroken t finding
