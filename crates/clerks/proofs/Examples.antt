@@ -1,6 +1,6 @@
 -- Worked examples of clerks: whose key it is, what they may send, and under which key.
 use Rattle.std.specs.Prelude.{◌≡◌, ℕ, List, [], ◌∷◌, map, codes, Option, Some, None, option_map, true, false, refl}
-use Rattle.terms.specs.Forms.{is_outside_key}
+use Rattle.terms.specs.Forms.{is_outside_key, is_clerk_name, is_clerk_key}
 use Rattle.terms.specs.declared.command.Command.TheVariants.{CheckOut, CheckIn, Renew, Page, Pay, Waive, Ask}
 use Rattle.terms.specs.declared.question.Question.TheVariants.{Copy, Copies, Borrower, Account, FindBarcode, Today}
 use Rattle.clerks.specs.Clerks.{may_send, key_given_by, sole_clerk, clerk_of}
@@ -43,6 +43,11 @@ keys_given : key_given_by (Some (codes "ann")) (codes "r1") ∷ key_given_by (So
     ≡ Some (codes "ann/r1") ∷ None ∷ Some (codes "r1") ∷ []
 unfolding is_outside_key
 keys_given = refl
+
+-- A key has a clerk's name if that has at most sixteen letters and digits.
+keys_of_long_names : map is_clerk_key (codes "abcdefghijklmnop/r1" ∷ codes "abcdefghijklmnopq/r1" ∷ codes "ann/" ∷ []) ≡ true ∷ false ∷ false ∷ []
+unfolding is_outside_key is_clerk_name is_clerk_key
+keys_of_long_names = refl
 
 sole_clerk_sends_everything : may_send (sole_clerk (codes "deskkey00001")).role (Waive 1 10) ∷ [] ≡ true ∷ []
 sole_clerk_sends_everything = refl
