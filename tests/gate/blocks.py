@@ -34,7 +34,6 @@ STAMP = r"town\.db-\d{4}-\d\d-\d\dT\d\d-\d\d-\d\dZ"
 DAY = r"\d{4}-\d\d-\d\d"
 TODAY = rf'\{{"reply":"today {DAY}"\}}\n'
 STARTED = ("circ.service", "circ-day.timer", "circ-watch.timer", "circ-backup.timer")
-INDEXES = ("copies_title", "lines_patron", "holds2_state", "loans3_of_copy", "copies_condition")
 MADE = r".*: there was no library; a new one was made\n"
 LENT = "ok\n" * 6 + "loan 1 due 2026-03-09\n"
 TOWN = {
@@ -236,7 +235,6 @@ def kept(page, typing, installs, upgrade, *others):
     typing.is_up()
     typing.types(upgrade(page.block("circ migrate")), r"(?:.*\n)*schema 4\n")
     typing.is_up()
-    part(indexes, page, typing)
     line, included = page.block("proxy_set_header Desk-Key"), "include /etc/circ/health.key;"
     nginx = read(f"{TOP}/docs/operations/nginx.conf")
     check("the file that nginx includes", (line, included in nginx), ("proxy_set_header Desk-Key KEY;\n", True))
@@ -301,20 +299,6 @@ def self_service(page, typing):
     else:
         check("somebody listens", False, True)
     Unit("circ-sip2.service", typing.machine.env).stops()
-
-
-def indexes(page, typing):
-    """A library that lacks them gets them at the prompt."""
-    reads, words = "sqlite3 'file:/var/lib/circ/town.db?immutable=1'", r"(?:\w+\n)*"
-    asks = "SELECT name FROM sqlite_schema WHERE type = 'index' ORDER BY name;"
-    typing.types("systemctl stop circ\ncirc audit /var/lib/circ/town.db", "sound\n")
-    typing.types("sqlite3 /var/lib/circ/town.db", at_prompt="".join(f"DROP INDEX {it};\n" for it in INDEXES))
-    before = typing.types(reads, words, at_prompt=asks).split()
-    made = rf"{typing.at('/var/backups/circ')}/{STAMP}\nsound\n"
-    typing.types(page.block("sqlite3 /var/lib/circ/town.db"), made, at_prompt=page.block("CREATE INDEX"))
-    check("the indexes", typing.types(reads, words, at_prompt=asks).split(), sorted({*before, *INDEXES}))
-    check("which were not there", {*before} & {*INDEXES}, set())
-    typing.is_up()
 
 
 def of_one_key(page, typing):

@@ -4,7 +4,7 @@ docs/operations, before a `circ serve` of four workers. It is no part of the gat
 what it needs from the system's packages.
 
     tests/tools/browser.py             both servers
-    tests/tools/browser.py --pictures  writes docs/patron-page.png and docs/desk-page.png too
+    tests/tools/browser.py --pictures  writes the pictures of both pages in docs/ too, 1,280 and 360 pixels wide
 """
 
 import contextlib
@@ -518,12 +518,14 @@ def place_from(page, title, branch, on):
     page.it("from").send_keys(Keys.ENTER)
 
 
-def look(driver, name, size):
-    driver.set_window_size(*size)
-    driver.execute_script("window.scrollTo(0, 0)")
-    with open(f"{TOP}/docs/{name}", "wb") as file:
-        file.write(driver.get_screenshot_as_png())
-    driver.set_window_size(900, 1000)
+def look(driver, name, tall):
+    """Writes the pictures of a page, as wide as a desk's screen and as a telephone's. Their heights are given."""
+    for wide, height, end in ((1280, tall[0], ""), (360, tall[1], "-360")):
+        driver.execute_cdp_cmd("Emulation.setDeviceMetricsOverride", {"width": wide, "height": height, "deviceScaleFactor": 1, "mobile": wide < 1000})
+        driver.execute_script("document.activeElement.blur(); window.scrollTo(0, 0)")
+        with open(f"{TOP}/docs/{name}{end}.png", "wb") as file:
+            file.write(driver.get_screenshot_as_png())
+    driver.execute_cdp_cmd("Emulation.clearDeviceMetricsOverride", {})
 
 
 def header(base):
@@ -558,7 +560,7 @@ def borrowed(driver, base, pictures):
     desk.press("debts")
     until("who owes for the days after the till", lambda: desk.items("list-rows") == ["3 Cy Dünn 0.40"])
     if pictures:
-        look(driver, "desk-page.png", (1280, 1000))
+        look(driver, "desk-page", (860, 1400))
 
 
 def tried(behind, pictures):
@@ -576,8 +578,7 @@ def tried(behind, pictures):
                 page = patron(driver, base, serving)
                 need("a look at the page", page.it("page").is_displayed(), True)
                 if pictures:
-                    driver.execute_script("document.activeElement.blur()")
-                    look(driver, "patron-page.png", (900, 1120))
+                    look(driver, "patron-page", (900, 1120))
                 killed(driver, base, serving)
                 lending(driver, base, serving, place)
                 need("what the browser complains of", complaints(driver), [])
