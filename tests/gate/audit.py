@@ -20,7 +20,7 @@ import tempfile
 from concurrent.futures import ThreadPoolExecutor
 from contextlib import closing
 
-import room  # finds lib and reference
+from room import TOP
 from lib.checking import check, part, run_script
 from lib.runs import CIRC, GROUND, circ, digest, memory_of, rows, say, whole, write
 
@@ -221,6 +221,23 @@ DAMAGE = [
     ([OLD_RULE.format(1, 1), "UPDATE meta SET next_loan = 2"], "unsound numbers loans3 2"),
     ([OLD_HOLD.format(9), "DELETE FROM holds"], "sound"),
 ]
+
+# What no law sees of another hand, by its row in docs/TESTS.md: what is written into the busy library, which stays
+# sound.
+UNSEEN = {
+    "a loan is ended": ["UPDATE loans3 SET ended = 20529 WHERE loan = 2"],
+    "whose a loan or hold is, a due day": ["UPDATE loans3 SET patron = 3, due = 20600 WHERE loan = 2", "UPDATE holds2 SET patron = 3 WHERE hold = 3"],
+    "a hold is cancelled": ["UPDATE holds2 SET state = 3 WHERE hold = 3"],
+    "a missing copy is found": ["UPDATE copies SET condition = 0 WHERE copy = 11"],
+    "a copy arrives": ["DELETE FROM transits WHERE copy = 20"],
+    "a line and its patron's debt": ["UPDATE lines SET amount = 90 WHERE line = 1", "UPDATE patrons SET owed = 40 WHERE patron = 1"],
+    "the last loan, hold or line and the next number": ["DELETE FROM holds2 WHERE hold = 4", "UPDATE meta SET next_hold = 4"],
+    "a name, a text, a price, a key": ["UPDATE patrons SET name = 'Zed', card_key = 'cardkey00009' WHERE patron = 1", "UPDATE titles SET text = 'Tides'", "UPDATE copies SET price = 1"],
+    "a home, a kind, a rule, a calendar": ["UPDATE copies SET home = 2 WHERE copy = 40", "UPDATE copies SET kind = 2", "UPDATE rules3 SET period = 20", CLOSED.format(1, 20600)],
+    "a barcode": [BARCODE.format(1, 40, "A1")],
+    "today": ["UPDATE meta SET today = 20600"],
+    "what is kept of requests": ["DELETE FROM kept WHERE key = 'a1'"],
+}
 
 # A row past its limits, or tables that no library has, are faults and no findings.
 FAULTS = [
@@ -532,6 +549,14 @@ def the_past(ground, folder):
     check(f"{most - least} KiB for the rows, of {bound}", most - least < bound, True)
 
 
+def unseen_rows():
+    """The document has a row for each of what no law sees, and no other."""
+    with open(f"{TOP}/docs/TESTS.md", encoding="utf-8") as file:
+        told = file.read().partition("## What an audit can't find")[2].partition("\n## ")[0]
+    told = [line.split("|")[1].strip() for line in told.splitlines() if line.startswith("| ")]
+    check("what no law sees, in the document", told[1:], list(UNSEEN))
+
+
 def no_library(folder):
     """Where there is no file, or one of no bytes, the answer is a fault, and no file is made."""
     absent, empty = os.path.join(folder, "absent.db"), os.path.join(folder, "empty.db")
@@ -616,11 +641,13 @@ def main(arguments):
         jobs += [(busy, len(jobs) + at, *it) for at, it in enumerate(DAMAGE + FAULTS)]
         jobs += [(charged, len(jobs) + at, *it) for at, it in enumerate(ON_THE_CHARGED)]
         jobs += [(large, len(jobs) + at, *it) for at, it in enumerate(FAR)]
+        jobs += [(busy, len(jobs) + at, texts, "sound") for at, texts in enumerate(UNSEEN.values())]
         by_laws = [job for job in jobs if not job[-1].startswith("fault")]
         check("findings and faults are tried", (len(by_laws) > 30, len(jobs) - len(by_laws) > 30), (True, True))
         with ThreadPoolExecutor(os.cpu_count()) as pool:
             list(pool.map(lambda job: part(damaged, job[0], folder, *job[1:]), jobs))
             list(pool.map(lambda job: part(found, job[0], folder, *job[1:]), by_laws))
+        part(unseen_rows)
         part(the_past, ground, folder)
         part(no_library, folder)
         part(lost_output, busy)
