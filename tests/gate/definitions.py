@@ -38,6 +38,7 @@ use lib.Utf8.{encode}
 use Rattle.finding.specs.Finding.{fold, folded, begins_with, occurs_in, words, finds}
 use Rattle.calendar.specs.Days.{day_text, civil_of}
 use Rattle.terms.specs.declared.command.Command.TheVariants.{SetCardKey, AmendPatron, AmendBranch, AmendTitle, AmendCopy, Rehome}
+use Rattle.terms.specs.declared.command.Command.TheVariants.{CopyBarcode, PatronBarcode, DropBarcode, Charge, PayAt}
 use Rattle.terms.specs.declared.command.Command.TheVariants.{BeginDay, Branch, Week, CloseDay, OpenDay, Kind, Rule, Grace, Patron, Acquire, CheckOut, CheckIn, Renew, PlaceHold, CancelHold, Unshelve, UnshelveCancelled, Missing, Withdraw, Pay, Waive, Ask}
 use Rattle.terms.specs.declared.question.Question.TheVariants as question
 use Rattle.terms.specs.Texts.{reply_text, reply_words, routed_words}
