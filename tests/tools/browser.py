@@ -536,6 +536,20 @@ def header(base):
     need("the first page", begin.startswith("302 ") and begin.endswith("/pages/patron.html"), True)
 
 
+def quick(driver, base):
+    """With 400 ms for each answer and nothing kept from before, a page can be used after a second and a half."""
+    driver.execute_cdp_cmd("Network.enable", {})
+    driver.execute_cdp_cmd("Network.emulateNetworkConditions", {"offline": False, "latency": 400, "downloadThroughput": -1, "uploadThroughput": -1})
+    for name in ("desk", "patron"):
+        driver.execute_cdp_cmd("Network.clearBrowserCache", {})
+        driver.get(f"{base}/pages/{name}.html")
+        took, others = driver.execute_script("""return [performance.getEntriesByType('navigation')[0].domContentLoadedEventEnd,
+            performance.getEntriesByType('resource').filter((it) => it.responseStatus !== 200).map((it) => it.name)]""")
+        need(f"{name}.html at 400 ms, after {took:.0f} ms", (took <= 1_500, others), (True, []))
+        print(f"browser: {name}.html can be used after {took:.0f} ms, at 400 ms an answer", flush=True)
+    driver.execute_cdp_cmd("Network.disable", {})
+
+
 def town(place):
     """The pages are installed, and the town gives its branches their names; its library has its first day and its
     branches."""
@@ -583,6 +597,8 @@ def tried(behind, pictures):
                 lending(driver, base, serving, place)
                 need("what the browser complains of", complaints(driver), [])
             if behind is behind_nginx:
+                with behind_nginx(place, serving.port) as base:
+                    quick(driver, base)
                 with behind_nginx(place, serving.port, allowed="") as base:
                     strangers(driver, base)
         finally:
