@@ -1,5 +1,5 @@
 -- Words that open no desk.
-use Rattle.std.proofs.Common.{◌≡◌, ◌≢◌, ◌∙◌, ◌<◌, ℕ, List, ◌∷◌, length, true, false, ap, sym, refl, arith}
+use Rattle.std.proofs.Common.{◌≡◌, ◌≢◌, ◌∙◌, ℕ, List, ◌∷◌, length, true, false, ap, sym, refl, arith}
 use Rattle.std.proofs.lemmas.Bool.{and_right, true≢false}
 use Rattle.terms.specs.Forms.{is_card_key}
 use Rattle.circ.specs.Arguments.{AreKeys, AreNoKeys}

@@ -1,6 +1,6 @@
 -- A legal history's tables name existing rows alone, and number loans, holds and lines without a gap.
 use Rattle.std.proofs.Common.{◌≡◌, ◌≢◌, ◌⊎◌, ℕ, zero, suc, ◌+◌, ◌<◌, ◌≤◌, Bool, true, false, cond, eqb, List, [], ◌∷◌, length, take, get_or, refl, sym, ◌∙◌, ap, subst, inl, inr, arith}
-use Rattle.std.specs.Prelude.{Option, Some, None, is_some, option_map, option_and_then, nat_lt, bytes_eq, ◌&&◌}
+use Rattle.std.specs.Prelude.{Option, Some, None, is_some, option_map, option_and_then, nat_lt, bytes_eq}
 use Rattle.std.specs.List.{Contains, Any}
 use Rattle.std.proofs.lemmas.Bool.{cases_lt, lt-ltb, le-ltb}
 use Rattle.std.proofs.lemmas.List.{length-take-le, get_or-take, get_or_default}
@@ -12,21 +12,15 @@ use Rattle.store.proofs.OneList.{pair_never}
 use Rattle.terms.specs.Orders.{IsPairBefore}
 use Rattle.terms.proofs.OrderLemmas.{ordered-at}
 use Rattle.terms.specs.Limits.{InLimits}
-use Rattle.terms.specs.Pictures.{Picture}
 use Rattle.terms.specs.Things.{thing_sort, thing_number}
 use Rattle.terms.specs.declared.row.BarcodeRow.{BarcodeRow}
 use Rattle.terms.specs.declared.row.ClosedDayRow.{ClosedDayRow}
-use Rattle.terms.specs.declared.row.CopyRow.{CopyRow}
 use Rattle.terms.specs.declared.row.HoldRow.{HoldRow}
 use Rattle.terms.specs.declared.row.HoldState.{HoldState}
 use Rattle.terms.specs.declared.row.LineRow.{LineRow}
 use Rattle.terms.specs.declared.row.LoanRow.{LoanRow}
-use Rattle.terms.specs.declared.row.NoteRow.{NoteRow}
-use Rattle.terms.specs.declared.row.PatronRow.{PatronRow}
-use Rattle.terms.specs.declared.row.RuleRow.{RuleRow}
 use Rattle.terms.specs.declared.row.Thing.{Thing}
 use Rattle.terms.specs.declared.row.Thing.TheVariants as thing
-use Rattle.terms.specs.declared.row.TransitRow.{TransitRow}
 use Rattle.terms.specs.declared.tables.Tables.{Tables}
 use Rattle.model.specs.Accounts.{Line, lines, nth_line}
 use Rattle.model.specs.Forms.{HasForms}
@@ -47,7 +41,7 @@ use Rattle.circ_audit.specs.declared.references.Table.{Table}
 use Rattle.circ_audit.specs.declared.references.Table.TheVariants as table
 use Rattle.circ_audit.specs.Barcodes.{has_barcode, AreDistinct}
 use Rattle.circ_audit.specs.Numbers.{is_given, IsGiven, IsNumbered}
-use Rattle.circ_audit.specs.References.{has, has_named, has_branch, has_kind, has_patron, has_title, has_copy, has_thing, ArePassed, IsReferred}
+use Rattle.circ_audit.specs.References.{has, has_named, has_branch, has_kind, has_patron, has_title, has_copy, has_thing, IsReferred}
 use Rattle.circ_audit.specs.References.{closed_day_refers, rule_refers, patron_refers, copy_refers, loan_refers, hold_refers, transit_refers, line_refers}
 use Rattle.circ_audit.specs.References.{barcode_refers, note_refers}
 use Rattle.circ_audit.proofs.Lookups.{row-found, find-none, not-eqb}

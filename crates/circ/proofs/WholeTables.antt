@@ -1,5 +1,5 @@
 -- All rows of the tables keep or break a law just as the rows that it concerns.
-use Rattle.std.proofs.Common.{◌≡◌, ℕ, ◌<◌, List, sym, ◌∙◌, subst}
+use Rattle.std.proofs.Common.{◌≡◌, ℕ, List, sym, ◌∙◌, subst}
 use Rattle.circ_tables.specs.Barcodes.{barcodes}
 use Rattle.circ_tables.specs.Cells.{thing_sort, thing_number}
 use Rattle.circ_tables.specs.ClosedDays.{closed_days}

@@ -1,7 +1,7 @@
 //! Bindings between holds and copies.
 
 ghost use Rattle.std.specs.Prelude.{◌≡◌};
-ghost use Rattle.circ_audit.specs.Rows.{copy_row, hold_row, is_titled, is_copy_of, is_fit, serves};
+ghost use Rattle.circ_audit.specs.Rows.{copy_row, hold_row, is_copy_of, is_fit, serves};
 ghost use Rattle.circ_audit.specs.Spans.{first_after, first_named, earlier_of};
 ghost use Rattle.circ_audit.specs.Sound.{IsServedOnce, IsRightlyBound, FailsFirst, IsFit, IsServed};
 

@@ -9,7 +9,6 @@ ghost use Rattle.circ_audit.specs.References.{transit_refers, line_refers, barco
 ghost use Rattle.circ_audit.specs.References.{note_refers, ArePassed, IsReferred, place_of_table};
 ghost use Rattle.circ_audit.specs.Sound.{FailsFirst, AreAllReferred, IsFirstReference};
 ghost use Rattle.circ_audit.specs.Spans.{first_after};
-ghost use Rattle.terms.specs.Things.{thing_number};
 
 use crate::rows::{Keyed, Numbered};
 use crate::spans::lesser;

@@ -1,5 +1,5 @@
 -- Worked examples of clerks: whose key it is, what they may send, and under which key.
-use Rattle.std.specs.Prelude.{◌≡◌, ℕ, List, [], ◌∷◌, map, codes, Option, Some, None, option_map, true, false, refl}
+use Rattle.std.specs.Prelude.{◌≡◌, List, [], ◌∷◌, map, codes, Some, None, option_map, true, false, refl}
 use Rattle.terms.specs.Forms.{is_outside_key, is_clerk_name, is_clerk_key}
 use Rattle.terms.specs.declared.command.Command.TheVariants.{CheckOut, CheckIn, Renew, Page, Pay, Waive, Ask}
 use Rattle.terms.specs.declared.question.Question.TheVariants.{Copy, Copies, Borrower, Account, FindBarcode, Today}

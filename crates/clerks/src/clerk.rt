@@ -1,7 +1,6 @@
 //! A clerk.
 
-ghost use Rattle.std.specs.Prelude.{◌≡◌, IfOk, true, false, MatchOption};
-ghost use Rattle.terms.specs.Forms.{is_outside_key};
+ghost use Rattle.std.specs.Prelude.{◌≡◌, IfOk, true, false};
 ghost use Rattle.clerks.specs.Clerks.{may_send, key_given_by, sole_clerk};
 
 use std::alloc::Global;

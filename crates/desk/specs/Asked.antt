@@ -1,5 +1,5 @@
 -- What the desk's questions show of the tables.
-use Rattle.std.specs.Prelude.{◌≡◌, ◌↔◌, ◌<◌, ℕ, true, List, [], ◌∷◌, replicate, Some, codes, decimal}
+use Rattle.std.specs.Prelude.{◌≡◌, ◌↔◌, ◌<◌, ℕ, true, List, ◌∷◌, replicate, Some, codes, decimal}
 use Rattle.std.specs.List.{join_with_byte}
 use Rattle.terms.specs.declared.question.Question.TheVariants as question
 use Rattle.finding.specs.Finding.{finds}

@@ -7,7 +7,6 @@ ghost use Rattle.terms.specs.declared.refusal.Refusal.TheVariants.{UnknownTitle}
 ghost use Rattle.circ_core.specs.Views.{IsCopyView};
 ghost use Rattle.terms.specs.declared.reply.Reply.TheVariants.{Shown};
 ghost use Rattle.model.specs.History.{title_of};
-ghost use Rattle.desk.specs.Placing.{two_lines};
 ghost use Rattle.model.specs.Picture.{picture};
 ghost use Rattle.model.specs.Refusals.{has_branch, has_copy};
 ghost use Rattle.model.specs.Asking.{asked, listed};

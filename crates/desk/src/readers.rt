@@ -1,6 +1,6 @@
 //! The patrons whose pages show a title.
 
-ghost use Rattle.std.specs.Prelude.{◌≡◌, [], ◌++◌, IfOk, map};
+ghost use Rattle.std.specs.Prelude.{◌≡◌, ◌++◌, IfOk, map};
 ghost use Rattle.desk.specs.Answering.{Learns};
 ghost use Rattle.desk.specs.Touching.{Adds, AreExactly, HasLoanOf, HasLoanAmong};
 ghost use Rattle.desk.specs.Touching.{IsReader, IsReaderFor, borrower_of};

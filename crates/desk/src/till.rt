@@ -1,6 +1,6 @@
 //! The till of a day: the report, and the sums of one branch's counter.
 
-ghost use Rattle.std.specs.Prelude.{◌≡◌, ◌++◌, ◌^◌, ◌-◌, ◌+◌, cond, filter, min, List, IfOk};
+ghost use Rattle.std.specs.Prelude.{◌≡◌, ◌++◌, ◌^◌, ◌-◌, ◌+◌, cond, min, List, IfOk};
 ghost use Rattle.std.specs.Prelude.{codes, string_bytes};
 ghost use Rattle.terms.specs.declared.row.LineRow.{LineRow as AnyLine};
 ghost use Rattle.terms.specs.Limits.{InLimits};

@@ -1,5 +1,5 @@
 -- What has a barcode, in words of the picture.
-use Rattle.std.proofs.Common.{◌≡◌, ◌∙◌, ℕ, List, Option, Some, None, ap}
+use Rattle.std.proofs.Common.{◌∙◌, ℕ, List, Option, Some, None, ap}
 use Rattle.std.specs.Prelude.{option_map}
 use Rattle.terms.specs.Pictures.{Picture}
 use Rattle.terms.specs.declared.row.BarcodeRow.{BarcodeRow}

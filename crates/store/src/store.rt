@@ -1,10 +1,8 @@
 //! The store: tables without a transaction between calls.
 
 ghost use Rattle.std.specs.Prelude.{◌≡◌, ◌↔◌, Err, IsTrue, false, IfOk, IfErr};
-ghost use Rattle.std.specs.Prelude.{option_map};
-ghost use Rattle.terms.specs.Limits.{InLimits, IsOwner};
+ghost use Rattle.terms.specs.Limits.{InLimits};
 ghost use Rattle.circ_core.specs.Views.{IsViewOf, HasOnly};
-ghost use Rattle.circ_tables.specs.Encoding.{reply_of};
 ghost use Rattle.store.specs.Commit.{Commits, CreatesLibrary, OpensLibrary, RefusesLibrary};
 ghost use Rattle.store.specs.Limits.{limit_of};
 ghost use Rattle.store.specs.Migrating.{Migrates, TellsSchema};

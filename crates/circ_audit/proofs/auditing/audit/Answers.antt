@@ -1,7 +1,6 @@
-use Rattle.std.proofs.Common.{◌≡◌, ℕ, Err, sym, subst}
+use Rattle.std.proofs.Common.{ℕ, Err, sym, subst}
 use Rattle.circ_audit.specs.declared.auditing.Finding.TheVariants.{Claims, Binding, Balance}
 use Rattle.circ_audit.specs.Sound.{IsClaimedOnce, IsRightlyBound, IsBalanced, Audits}
-use Rattle.circ_audit.specs.Sound.{AreAllClaimed, AreAllBound, AreAllBalanced, AreAllReferred, AreAllNumbered}
 use Rattle.circ_audit.proofs.Firsts.{none-found, unmatched}
 use Rattle.circ_audit.proofs.Audited.{audits-claims, audits-binding, audits-balance, audits-reference, audits-numbers, audits-sound}
 use Rattle.circ_audit.proofs.auditing.audit.Goals as goal

@@ -1,4 +1,4 @@
-use Rattle.std.proofs.Common.{◌≡◌, ◌<◌, List, rules, ◌∙◌, ap}
+use Rattle.std.proofs.Common.{◌<◌, List, rules, ◌∙◌, ap}
 use Rattle.std.proofs.lemmas.List.Sorted.{answers_always}
 use Rattle.terms.proofs.OrderLemmas.{ordered-as}
 use Rattle.circ_audit.specs.References.{has}

@@ -1,4 +1,4 @@
-use Rattle.std.proofs.Common.{sym, ◌∙◌, ap, subst}
+use Rattle.std.proofs.Common.{sym, ◌∙◌, ap}
 use Rattle.std.specs.Prelude.{is_some}
 use Rattle.terms.specs.declared.reply.Reply.TheVariants.{Shown}
 use Rattle.model.specs.Asking.{thing_words}

@@ -1,4 +1,4 @@
-use Rattle.std.proofs.Common.{◌≡◌, ◌++◌, ◌∷◌, List, ℕ, Option, sym, ap, append-nil, ◌∙◌}
+use Rattle.std.proofs.Common.{◌++◌, ◌∷◌, List, ℕ, Option, sym, ap, append-nil, ◌∙◌}
 use Rattle.std.specs.Prelude.{option_map, string_bytes}
 use Rattle.terms.specs.declared.row.BarcodeRow.{BarcodeRow}
 use Rattle.model.proofs.RowRanges.{legal-rows}

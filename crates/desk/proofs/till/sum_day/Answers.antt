@@ -1,5 +1,5 @@
 use Rattle.std.proofs.Common.{◌≡◌, ◌^◌, ◌≤◌, ◌<◌, ◌++◌, ℕ, List, [], Bool, refl, sym, subst, arith, rules}
-use Rattle.std.specs.Prelude.{Option, Some, None, filter}
+use Rattle.std.specs.Prelude.{Some, None, filter}
 use Rattle.store.specs.Batches.{AreLinesAfter}
 use Rattle.terms.specs.Pictures.{Picture}
 use Rattle.terms.specs.declared.row.LineRow.{LineRow}

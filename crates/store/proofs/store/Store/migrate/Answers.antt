@@ -1,5 +1,3 @@
-use Rattle.std.proofs.Common.{Ok, sym, subst, arith}
-use Rattle.store.specs.Migrating.{Migrates}
 use Rattle.store.proofs.SchemaSteps.{leads_one, leads_failed, leads_then, migrates_all, from_newest, from_third}
 use Rattle.store.proofs.store.Store.migrate.Goals.{else-branch-lt-SCHEMA-via-then-branch-lt-SCHEMA+in_ok-step-2+else-branch-lt-SCHEMA-2}
 use Rattle.store.proofs.store.Store.migrate.Goals.{else-branch-lt-SCHEMA-via-else-branch-lt-SCHEMA}
