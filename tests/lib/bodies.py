@@ -87,7 +87,9 @@ def bodies_of(text, path, kinds):
             function = "::".join([*(owner if head[1] and owner else module_of(path)), head[2]])
             claims = is_of_trait or any(it.lstrip().startswith("ensures") for it in lines[at:first])
             top = first_line(lines, at)
-            is_twice = not is_of_trait and not any("#[cycle" in it for it in lines[top:at]) and not any(re.search(rf"\b{head[2]}\b", it) for it in lines[first : last + 1])
+            # what calls itself can't stand twice; a path of another module or type names another function
+            itself = re.compile(rf"(?<!::)\b{head[2]}\b|\b(?:Self|self|{owner[-1] if owner else 'Self'})::{head[2]}\b")
+            is_twice = not is_of_trait and not any("#[cycle" in it for it in lines[top:at]) and not any(itself.search(it) for it in lines[first : last + 1])
             found.append(Body(function, path, begun, starts[last] + len(lines[last]), claims, (top, last) if is_twice else None))
     return found
 
