@@ -251,7 +251,7 @@ def send(desk, what, key, *words):
         return None, refusal.number
     except Fault as fault:
         told = with_meaning("fault", fault.number)
-        raise Ended(FAULT, f"{told}; run the same again when that is mended") from None
+        raise Ended(FAULT, f"{told}; run the same again when that is fixed") from None
     except NotUnderstood:
         raise Ended(BAD, f"the desk does not understand {what}") from None
     except NoAnswer:

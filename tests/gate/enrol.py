@@ -202,7 +202,7 @@ LABELLED = WITH_BARCODES + """\
 
 def with_barcodes(folder):
     """A list with barcodes gives them to the patrons that have one there. A row whose barcode is refused is told by
-    that request's key; once the barcode is mended the row is accepted, and each barcode was given once."""
+    that request's key; once the barcode is corrected the row is accepted, and each barcode was given once."""
     path, refused, again = a_library(folder,
                                      "labelled.db"), os.path.join(folder,
                                                                   "taken.csv"), os.path.join(folder, "taken2.csv")
@@ -347,8 +347,8 @@ ANSWERS = [
     ("another number", http_answer(409, '{"refusal":"80"}'), NO_DESK, 3),
     ("nowhere", http_answer(404, '{"status":404}'), NO_DESK, 3),
     ("no request", http_answer(400, '{"status":400}'), "the desk does not understand the row of patron 50", 4),
-    ("a fault", http_answer(503, '{"fault":92}'), "fault 92: the desk is closed; run the same again when that is mended", 3),
-    ("a fault of no meaning", http_answer(503, '{"fault":99}'), "fault 99; run the same again when that is mended", 3),
+    ("a fault", http_answer(503, '{"fault":92}'), "fault 92: the desk is closed; run the same again when that is fixed", 3),
+    ("a fault of no meaning", http_answer(503, '{"fault":99}'), "fault 99; run the same again when that is fixed", 3),
 ]
 
 
