@@ -624,6 +624,44 @@ def random_damage(library, folder, seed, many):
     check("each law is broken, and none", sorted(met), ["sound", *(f"unsound {it}" for it in laws)])
 
 
+def flipped_bits(library, folder, seed, many):
+    """One bit of a page of a table is another, of what stands in it: where stock SQLite reads the rows of before, the audit is `sound`, or the file is
+    told as damaged; where it reads others, the line is that of the laws in plain Python, or a fault; and a fault where
+    it reads none."""
+    draw, met, before = random.Random(seed), {}, whole(library)
+    tidy = os.path.join(folder, "tidy.db")
+    write(library, f"VACUUM INTO '{tidy}'")
+    pages = [4096 * (page - 1) for page, in rows(tidy, "SELECT rootpage FROM sqlite_schema WHERE type = 'table'")]
+    with open(tidy, "rb") as file:
+        text = file.read()
+    filled = [at for page in pages for at in range(page, page + 4096) if text[at]]
+    bits = [8 * draw.choice(filled) + draw.randrange(8) for _ in range(many)]
+
+    def one(bit):
+        path = os.path.join(folder, f"bit{bit}.db")
+        data = bytearray(text)
+        data[bit // 8] ^= 1 << bit % 8
+        with open(path, "wb") as file:
+            file.write(data)
+        try:
+            is_same, line = whole(path) == before, laws_of(path)
+            wanted = ("sound", "fault 91") if is_same else (line, "fault 91", "fault 93")
+        except (sqlite3.Error, TypeError, ValueError):
+            is_same, wanted = False, ("fault 91", "fault 93")
+        run = subprocess.run([CIRC, "audit", path], capture_output=True, timeout=60)
+        told = run.stdout.decode().rstrip("\n")
+        check(f"the audit with bit {bit} flipped, {told}", (told in wanted, run.returncode), (True, status_of(told)))
+        os.remove(path)
+        return is_same, told.split()[0]
+
+    with ThreadPoolExecutor(os.cpu_count()) as pool:
+        for it in pool.map(one, sorted(set(bits))):
+            met[it] = met.get(it, 0) + 1
+    told = ", ".join(f"{count} {'with the same rows' if is_same else 'with others'} {word}" for (is_same, word), count in sorted(met.items()))
+    print(f"audit: flipped bits: {told}, by the seed {seed}")
+    check("other rows are found", min(met.get((False, it), 0) for it in ("unsound", "fault")) > 0, True)
+
+
 def main(arguments):
     seed = int(arguments[0]) if arguments else 2826
     with tempfile.TemporaryDirectory() as folder:
@@ -652,6 +690,7 @@ def main(arguments):
         part(no_library, folder)
         part(lost_output, busy)
         part(random_damage, busy, folder, seed, 400)
+        part(flipped_bits, busy, folder, seed, 300)
         check("the library is as it was", whole(busy), kept)
 
 
