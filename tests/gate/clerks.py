@@ -351,20 +351,34 @@ AT_COUNTERS = [
 ]
 
 
-def at_counters(place):
-    """The worked requests of clerks at counters, on the library that the story of barcodes and counters leaves."""
-    path, library = a_library(place, "counters.db"), Library()
+def counted_at(place, is_sent):
+    """The story of barcodes and counters, its desk's requests posted to eight workers, or sent by `circ send`: the
+    library that it leaves, and the same by the rules."""
+    path, library = a_library(place, f"counters{is_sent:d}.db"), Library()
     for key, words, _ in GROUND:
         library.handle(key, words)
     (story,) = stories_of(os.path.join(TOP, "tests", "data", "stories", "labels.txt"))
     asked = [(step, key, words) for step in story.steps for key,
              words in step.requests() if step.answer != ["words not understood"]]
-    with Serving(path, len(asked)) as serving:
+    with Serving(path, len(asked), workers=8) as serving:
         for step, key, words in asked:
-            found = serving.desk(key,
-                                 words) if step.patron is None else serving.ask(*by_patron(step.patron,
-                                     step.card_key, key, words))[:2]
-            check(f"{key} {words}", found, told(step.by_rules(library, key, words)))
+            line = step.by_rules(library, key, words)
+            if step.patron is not None:
+                found = serving.ask(*by_patron(step.patron, step.card_key, key, words))[:2]
+                check(f"{key} {words}", found, told(line))
+            elif is_sent:
+                tried(["send", str(serving.port), DESK_KEY, key, *words], told(line)[1].decode() + "\n", runs.status_of(line))
+            else:
+                check(f"{key} {words}", serving.desk(key, words), told(line))
+    return path, library
+
+
+def at_counters(place):
+    """The worked requests of clerks at counters, on the library that the story of barcodes and counters leaves,
+    whichever way its requests came."""
+    other, by_rules = counted_at(place, True)
+    runs.the_rows_are(other, by_rules)
+    path, library = counted_at(place, False)
     with Serving(path, len(AT_COUNTERS) + 1, clerks=CLERKS, workers=8) as serving:
         for shown, key, text, answer in AT_COUNTERS:
             words = text.split()
