@@ -84,6 +84,8 @@ export function readAnswer(status, body) {
   if ((status === 403 || status === 409) && Number.isInteger(told.refusal)) return { refusal: told.refusal };
   if (status === 503 && Number.isInteger(told.fault)) return { fault: told.fault };
   if ([400, 404, 405, 413].includes(status) && told.status === status) return { status };
+  // a reverse proxy's, which passed nothing on
+  if (status === 429) return { status };
   return { strange: status };
 }
 

@@ -101,7 +101,8 @@ function meaningOf(number, words) {
 // What an answer says that isn't a reply; `words` are those of a desk, and null where a patron asked.
 export function saidNo(answer, words = null) {
   const number = answer.refusal ?? answer.fault ?? answer.status ?? answer.strange;
-  const text = answer.refusal ? TEXTS.refused : answer.fault ? TEXTS.faulted : answer.status ? TEXTS.notTaken : TEXTS.strange;
+  const notTaken = answer.status === 429 ? TEXTS.tooMany : TEXTS.notTaken;
+  const text = answer.refusal ? TEXTS.refused : answer.fault ? TEXTS.faulted : answer.status ? notTaken : TEXTS.strange;
   return say(text, { number, meaning: meaningOf(number, words) });
 }
 

@@ -119,6 +119,7 @@ export const TEXTS = {
   refused: "{meaning}",
   faulted: "Fault {number}: {meaning} Send it again later; it will be done only once.",
   notTaken: "The desk did not take this (status {number}).",
+  tooMany: "Too many requests at once. Nothing was done: wait a minute and try again.",
   strange: "This page can't read the answer (status {number}). It is not known whether the request was carried out.",
   unknown: "No connection. We keep trying; it will be done only once.",
   sending: "Sending …",

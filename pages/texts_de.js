@@ -101,6 +101,7 @@ export const TEXTS = {
   refused: "{meaning}",
   faulted: "Fehler {number}: {meaning} Bitte später noch einmal senden; es geschieht nur einmal.",
   notTaken: "Die Theke hat das nicht angenommen (Status {number}).",
+  tooMany: "Zu viele Anfragen auf einmal. Nichts wurde ausgeführt: bitte eine Minute warten und noch einmal versuchen.",
   strange: "Diese Seite kann die Antwort nicht lesen (Status {number}). Es ist nicht bekannt, ob der Auftrag ausgeführt wurde.",
   unknown: "Keine Verbindung. Wir versuchen es weiter; es geschieht nur einmal.",
   sending: "Wird gesendet …",

@@ -325,6 +325,7 @@ is(readAnswer(403, '{"refusal":81}'), { refusal: 81 });
 is(readAnswer(409, '{"refusal":36}'), { refusal: 36 });
 is(readAnswer(503, '{"fault":92}'), { fault: 92 });
 for (const status of [400, 404, 405, 413]) is(readAnswer(status, `{"status":${status}}`), { status });
+is([readAnswer(429, "<html>"), plain(saying.saidNo({ status: 429 }))], [{ status: 429 }, "Too many requests at once. Nothing was done: wait a minute and try again."]);
 for (const [status, body] of [[200, "ok"], [200, '{"reply":"what"}'], [403, "<html>"], [502, "<html>"], [503, "<html>"], [503, '{"reply":"ok"}'], [200, "null"], [400, '{"status":404}'], [500, '{"fault":91}']]) {
   is(readAnswer(status, body), { strange: status });
 }
@@ -439,11 +440,11 @@ is(unknown, 3);
 is(sent, Array(4).fill(["/desk", request.requestKey, "deskkey00001", '["renew","1"]']));
 is([door.left(), door.isBusy], [null, false]);
 
-// ---- an answer that came and isn't understood ends the request, with its status
-for (const [status, body] of [[403, "<html>403 Forbidden</html>"], [200, '{"reply":"what"}'], [429, ""], [500, "<html>"]]) {
+// ---- an answer that came and isn't understood ends the request, with its status, and so does one to too many requests
+for (const [status, body] of [[403, "<html>403 Forbidden</html>"], [200, '{"reply":"what"}'], [429, "<html>"], [500, "<html>"]]) {
   sent = network([[0, status, body]]);
   unknown = 0;
-  is(await door.ask(request, notKnown, [1]), { strange: status });
+  is(await door.ask(request, notKnown, [1]), status === 429 ? { status } : { strange: status });
   is([unknown, sent.length, door.left()], [0, 1, null]);
 }
 

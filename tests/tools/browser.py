@@ -12,10 +12,13 @@ import importlib.util
 import json
 import os
 import re
+import socket
 import sqlite3
+import ssl
 import subprocess
 import sys
 import tempfile
+import time
 from importlib.machinery import SourceFileLoader
 
 from selenium.webdriver.common.action_chains import ActionChains
@@ -77,7 +80,7 @@ def behind_nginx(place, port, allowed="allow 127.0.0.1;"):
 def behind_caddy(place, port):
     at = outside.free_port()
     site = outside.document("operations/Caddyfile").replace("library.example {", f"http://127.0.0.1:{at} {{").replace("127.0.0.1:8080", f"127.0.0.1:{port}")
-    outside.write(f"{place}/Caddyfile", f"{{\n\tadmin off\n}}\n{site}".replace("root * /usr/local/share/circ", f"root * {place}/share/circ"))
+    outside.write(f"{place}/Caddyfile", site.replace("\n{\n", "\n{\n\tadmin off\n", 1).replace("root * /usr/local/share/circ", f"root * {place}/share/circ"))
     how = {"env": {**os.environ, "HOME": place}, "stdout": subprocess.DEVNULL, "stderr": subprocess.DEVNULL}
     server = subprocess.Popen(["caddy", "run", "--adapter", "caddyfile", "--config", f"{place}/Caddyfile"], **how)
     try:
@@ -528,10 +531,19 @@ def look(driver, name, tall):
     driver.execute_cdp_cmd("Emulation.clearDeviceMetricsOverride", {})
 
 
+# what each answer of a server says, of a page and of the desk, and how long it may be kept
+SAID = {"content-security-policy": "default-src 'self'; frame-ancestors 'none'; base-uri 'none'; form-action 'self'", "x-content-type-options": "nosniff",
+        "referrer-policy": "no-referrer", "strict-transport-security": "max-age=31536000"}
+KEPT = {"/pages/desk.js": "no-cache", "/pages/desk.html": "no-cache", "/patrons/1": "no-store", "/nowhere": "no-store"}
+
+
 def header(base):
-    told = outside.run("curl", "-s", "-k", "-D", "-", "-o", os.devnull, f"{base}/pages/desk.js").stdout.lower()
-    need("what a page may load", "content-security-policy: default-src 'self'\n" in told, True)
-    need("a module's type", "javascript" in told, True)
+    for path, kept in KEPT.items():
+        told = outside.run("curl", "-s", "-k", "-D", "-", "-o", os.devnull, f"{base}{path}").stdout.lower()
+        fields = dict(line.split(": ", 1) for line in told.splitlines() if ": " in line)
+        need(f"what is said of {path}", {name: fields.get(name) for name in (*SAID, "cache-control")}, {**SAID, "cache-control": kept})
+        if path.endswith(".js"):
+            need("a module's type", "javascript" in fields["content-type"], True)
     begin = outside.run("curl", "-s", "-k", "-o", os.devnull, "-w", "%{http_code} %{redirect_url}", f"{base}/").stdout
     need("the first page", begin.startswith("302 ") and begin.endswith("/pages/patron.html"), True)
 
@@ -548,6 +560,32 @@ def quick(driver, base):
         need(f"{name}.html at 400 ms, after {took:.0f} ms", (took <= 1_500, others), (True, []))
         print(f"browser: {name}.html can be used after {took:.0f} ms, at 400 ms an answer", flush=True)
     driver.execute_cdp_cmd("Network.disable", {})
+
+
+def slow_body(base):
+    """A body that doesn't come is cut after ten seconds."""
+    host, port = base.partition("://")[2].split(":")
+    plain = socket.create_connection((host, int(port)), timeout=30)
+    sent = ssl._create_unverified_context().wrap_socket(plain) if base.startswith("https") else plain
+    began = time.monotonic()
+    sent.sendall(f"POST /patrons/1/holds HTTP/1.1\r\nHost: {host}\r\nCard-Key: cardkey00001\r\nRequest-Key: slow\r\nContent-Length: 60\r\n\r\n{{".encode())
+    with contextlib.suppress(ConnectionResetError):
+        while sent.recv(4096):
+            pass
+    need("a slow body is cut", 5 < time.monotonic() - began < 25, True)
+    sent.close()
+
+
+def guesser(base):
+    """Who guesses keys is soon answered with 429 on both routes, and not for ever."""
+    for route, many in (("/patrons/1", 60), ("/desk", 400)):
+        asked = [it for n in range(many) for it in ("--next", "-s", "-k", "-o", os.devnull, "-w", "%{http_code}\n", "-H", f"Card-Key: wrongkey{n:04}", "-H", f"Desk-Key: wrongkey{n:04}",
+                                                    "-H", "Request-Key: g", *(("-d", '["today"]') if route == "/desk" else ()), f"{base}{route}")][1:]
+        told = outside.run("curl", *asked).stdout.split()
+        need(f"what a guesser is told at {route}", ({*told} == {"403", "429"}, told[0], told[-1]), (True, "403", "429"))
+        time.sleep(3)
+        again = outside.run("curl", *asked[: asked.index("--next")]).stdout.split()
+        need(f"and later at {route}", again, ["403"])
 
 
 def town(place):
@@ -587,6 +625,7 @@ def tried(behind, pictures):
         try:
             with behind(place, serving.port) as base:
                 header(base)
+                slow_body(base)
                 clerk(driver, base)
                 borrowed(driver, base, pictures)
                 page = patron(driver, base, serving)
@@ -599,6 +638,7 @@ def tried(behind, pictures):
             if behind is behind_nginx:
                 with behind_nginx(place, serving.port) as base:
                     quick(driver, base)
+                    guesser(base)
                 with behind_nginx(place, serving.port, allowed="") as base:
                     strangers(driver, base)
         finally:
