@@ -19,10 +19,10 @@ export function beginsScan({ key, ctrlKey, altKey, metaKey }) {
   return ((key.length === 1 && key !== " ") || key === "Unidentified") && !ctrlKey && !altKey && !metaKey;
 }
 
-// The number of a scan without its prefix, and whose prefix it was: a patron's, a copy's, or null for none.
+// The number of a scan without its prefix, and whose prefix it was: a patron's, a copy's, or null for none. A prefix stands before a digit; a name may begin with the same letters.
 export function cut(text, prefixes = PREFIXES) {
   const longestFirst = Object.entries(prefixes).sort(([, one], [, other]) => other.length - one.length);
-  const found = longestFirst.find(([, prefix]) => prefix !== "" && text.toUpperCase().startsWith(prefix.toUpperCase()));
+  const found = longestFirst.find(([, prefix]) => prefix !== "" && text.toUpperCase().startsWith(prefix.toUpperCase()) && /^\d/.test(text.slice(prefix.length)));
   return found ? { of: found[0], number: text.slice(found[1].length) } : { of: null, number: text };
 }
 

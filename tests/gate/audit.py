@@ -657,7 +657,8 @@ def flipped_bits(library, folder, seed, many):
     with ThreadPoolExecutor(os.cpu_count()) as pool:
         for it in pool.map(one, sorted(set(bits))):
             met[it] = met.get(it, 0) + 1
-    told = ", ".join(f"{count} {'with the same rows' if is_same else 'with others'} {word}" for (is_same, word), count in sorted(met.items()))
+    told = ", ".join(f"{count} {'with the same rows' if is_same else 'with others'} {word}"
+                     for (is_same, word), count in sorted(met.items()))
     print(f"audit: flipped bits: {told}, by the seed {seed}")
     check("other rows are found", min(met.get((False, it), 0) for it in ("unsound", "fault")) > 0, True)
 

@@ -249,6 +249,7 @@ is([[{ key: "Tab" }, "10"], [{ key: "Tab" }, ""], [{ key: "Tab", shiftKey: true 
   [{ key: "j" }, "1"], [{ key: "1" }, "1"]].map(([key, text]) => Boolean(endsScan(key, text))), [true, false, false, true, true, true, false, false]);
 is([{ key: "1" }, { key: "P" }, { key: " " }, { key: "Enter" }, { key: "2", altKey: true }, { key: "c", ctrlKey: true }, { key: "Unidentified" }].map(beginsScan), [true, true, false, false, false, false, true]);
 is(["P4", "p4", "C31", "31", "X31"].map((text) => cut(text)), [{ of: "patron", number: "4" }, { of: "patron", number: "4" }, { of: "copy", number: "31" }, { of: null, number: "31" }, { of: null, number: "X31" }]);
+is(["Carr", "Pat", "C", "P", "carr bo"].map((text) => cut(text)), ["Carr", "Pat", "C", "P", "carr bo"].map((text) => ({ of: null, number: text })));
 is(["LIB4", "L31", "P4"].map((text) => cut(text, { patron: "LIB", copy: "L" }).of), ["patron", "copy", null]);
 is(cut("P4", { patron: "", copy: "" }), { of: null, number: "P4" });
 is([itemOf("check-out", null, "P4"), itemOf("check-out", 4, "C31"), itemOf("check-in", null, "31")].map(({ kind, number, patron }) => [kind, number, patron]),

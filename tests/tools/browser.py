@@ -26,6 +26,7 @@ from selenium.webdriver.common.by import By
 from selenium.webdriver.common.keys import Keys
 
 from room import TOP
+from lib.browser_day import by_names
 from lib.browsing import DESK_KEY, Desk, Failed, Page, browser, complaints, counts, need, until
 
 LOADED = importlib.util.spec_from_loader("outside", SourceFileLoader("outside", f"{TOP}/tests/tools/outside"))
@@ -39,8 +40,8 @@ SET_UP = ("begin-day 2026-03-02", "branch ")
 class Serving:
     """`circ serve` with four workers on a port of its own, which can be killed and started again."""
 
-    def __init__(self, place):
-        self.path, self.port = os.path.join(place, "town.db"), outside.free_port()
+    def __init__(self, place, name="town.db"):
+        self.path, self.port = os.path.join(place, name), outside.free_port()
 
     def start(self, keys=DESK_KEY):
         self.run = subprocess.Popen([outside.PROGRAM, "serve", self.path, str(self.port), "4", "1000000", keys], stdout=subprocess.PIPE)
@@ -532,8 +533,9 @@ def look(driver, name, tall):
 
 
 # what each answer of a server says, of a page and of the desk, and how long it may be kept
-SAID = {"content-security-policy": "default-src 'self'; frame-ancestors 'none'; base-uri 'none'; form-action 'self'", "x-content-type-options": "nosniff",
-        "referrer-policy": "no-referrer", "strict-transport-security": "max-age=31536000"}
+SAID = {"content-security-policy": "default-src 'self'; frame-ancestors 'none'; base-uri 'none'; form-action 'self'",
+        "x-content-type-options": "nosniff", "referrer-policy": "no-referrer",
+        "strict-transport-security": "max-age=31536000"}
 KEPT = {"/pages/desk.js": "no-cache", "/pages/desk.html": "no-cache", "/patrons/1": "no-store", "/nowhere": "no-store"}
 
 
@@ -541,7 +543,8 @@ def header(base):
     for path, kept in KEPT.items():
         told = outside.run("curl", "-s", "-k", "-D", "-", "-o", os.devnull, f"{base}{path}").stdout.lower()
         fields = dict(line.split(": ", 1) for line in told.splitlines() if ": " in line)
-        need(f"what is said of {path}", {name: fields.get(name) for name in (*SAID, "cache-control")}, {**SAID, "cache-control": kept})
+        said = {name: fields.get(name) for name in (*SAID, "cache-control")}
+        need(f"what is said of {path}", said, {**SAID, "cache-control": kept})
         if path.endswith(".js"):
             need("a module's type", "javascript" in fields["content-type"], True)
     begin = outside.run("curl", "-s", "-k", "-o", os.devnull, "-w", "%{http_code} %{redirect_url}", f"{base}/").stdout
@@ -579,8 +582,10 @@ def slow_body(base):
 def guesser(base):
     """Who guesses keys is soon answered with 429 on both routes, and not for ever."""
     for route, many in (("/patrons/1", 60), ("/desk", 400)):
-        asked = [it for n in range(many) for it in ("--next", "-s", "-k", "-o", os.devnull, "-w", "%{http_code}\n", "-H", f"Card-Key: wrongkey{n:04}", "-H", f"Desk-Key: wrongkey{n:04}",
-                                                    "-H", "Request-Key: g", *(("-d", '["today"]') if route == "/desk" else ()), f"{base}{route}")][1:]
+        body = ("-d", '["today"]') if route == "/desk" else ()
+        fixed = ("--next", "-s", "-k", "-o", os.devnull, "-w", "%{http_code}\n", "-H", "Request-Key: g", *body)
+        keys = lambda n: ("-H", f"Card-Key: wrongkey{n:04}", "-H", f"Desk-Key: wrongkey{n:04}")
+        asked = [it for n in range(many) for it in (*fixed, *keys(n), f"{base}{route}")][1:]
         told = outside.run("curl", *asked).stdout.split()
         need(f"what a guesser is told at {route}", ({*told} == {"403", "429"}, told[0], told[-1]), (True, "403", "429"))
         time.sleep(3)
@@ -641,6 +646,7 @@ def tried(behind, pictures):
                     guesser(base)
                 with behind_nginx(place, serving.port, allowed="") as base:
                     strangers(driver, base)
+            by_names(driver, behind, place, Serving(place, "names.db"))
         finally:
             driver.quit()
             serving.kill()
