@@ -16,7 +16,7 @@ import tempfile
 import room  # finds lib and reference
 from lib.checking import check, part, run_script
 from lib.messages import message
-from lib.runs import CIRC, GROUND, HEADER, PROGRAM, circ, digest, indexes_by_hand, rows, say, take_in, whole, write
+from lib.runs import CIRC, GROUND, HEADER, LAST_INDEXES, PROGRAM, circ, digest, rows, say, take_in, whole, write
 
 
 LENDING = [
@@ -322,7 +322,7 @@ def a_new_library(folder):
           [("CREATE INDEX holds2_title ON holds2 (title, state, first_day, hold)",)])
     made = [text for (text,) in rows(path,
                                      "SELECT sql FROM sqlite_schema WHERE type = 'index' AND sql IS NOT NULL ORDER BY rowid")]
-    check("the five indexes that came last in schema 3", made[-7:-2], indexes_by_hand())
+    check("the five indexes that came last in schema 3", made[-7:-2], LAST_INDEXES)
     check("the indexes of schema 4", made[-2:],
           ["CREATE INDEX barcodes_barcode ON barcodes (barcode)", "CREATE INDEX notes_branch ON notes (branch, line)"])
     empty = os.path.join(folder, "empty.db")

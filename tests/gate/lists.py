@@ -19,7 +19,7 @@ from contextlib import closing
 
 import room  # finds lib and reference
 from lib.checking import check, part, run_script
-from lib.runs import GROUND, HEADER, PROGRAM, ROOM, answers, circ, indexes_by_hand, memory_of, report, rows, say, take_in, the_rows_are, whole, write
+from lib.runs import GROUND, HEADER, LAST_INDEXES, PROGRAM, ROOM, answers, circ, memory_of, report, rows, say, take_in, the_rows_are, whole, write
 from lib.serving import DESK_KEY, Serving, told
 from reference.desk_rules import EPOCH, MOST_LOOKED_AT, MOST_ROWS, SEARCHES, Library, finds
 
@@ -292,11 +292,11 @@ def long_lists(folder):
     made, old = "SELECT name, sql FROM sqlite_schema WHERE type = 'index' AND sql IS NOT NULL ORDER BY name", os.path.join(folder, "older.db")
     shutil.copy(path, old)
     before = rows(old, made)
-    write(old, *(f"DROP INDEX {text.split()[2]}" for text in indexes_by_hand()))
+    write(old, *(f"DROP INDEX {text.split()[2]}" for text in LAST_INDEXES))
     check("five indexes are gone", len(rows(old, made)), len(before) - 5)
     for words in LONG_LISTS:
         check(f"{words} without the indexes", walked(old, library, words), walked(path, library, words))
-    write(old, *indexes_by_hand())
+    write(old, *LAST_INDEXES)
     check("the indexes, made by hand", rows(old, made), before)
     for words in LONG_LISTS:
         check(f"{words} with the indexes made by hand", walked(old, library, words), walked(path, library, words))

@@ -30,7 +30,7 @@ from lib import runs
 from lib.checking import check, part, run_script
 from lib.messages import DAMAGED_ROW, LATER, MEANINGS, OLDER, SCHEMA, as_it_is, is_held, message
 from lib.runs import (
-    CIRC, GROUND, HEADER, PROGRAM, ROOM, answers, circ, digest, indexes_by_hand, kill_at_work, memory_of, month,
+    CIRC, GROUND, HEADER, LAST_INDEXES, PROGRAM, ROOM, answers, circ, digest, kill_at_work, memory_of, month,
     rows, say,
     status_of, the_rows_are, timed, whole, write,
 )
@@ -217,7 +217,7 @@ def absent_indexes(folder):
     """Of a library of schema 3 that was made before there were the five last indexes, or lacks some of them, those are
     made that it lacks; one to which they were added by hand keeps them. The words IF NOT EXISTS, by which an index was
     made, are no part of it."""
-    new, names = os.path.join(folder, "new.db"), [text.split()[2] for text in indexes_by_hand()]
+    new, names = os.path.join(folder, "new.db"), [text.split()[2] for text in LAST_INDEXES]
     say(new, [("g1", ["week", "1", "ooooooo"], "refused 10")])
     lacking = [names, *([name] for name in names), names[:3], names[3:], names[::2]]
     for at, absent in enumerate(lacking):
@@ -228,7 +228,7 @@ def absent_indexes(folder):
         check(f"the tables and indexes of a library without {absent}", found, texts_of(new))
         the_rows_are(path, known(MONTH[2]))
     path = old_library(HOLDS[2], os.path.join(folder, "by_hand.db"))
-    write(path, *(f"DROP INDEX {name}" for name in names), *indexes_by_hand())
+    write(path, *(f"DROP INDEX {name}" for name in names), *LAST_INDEXES)
     is_migrated(path, whole(path), "a library with indexes made by hand")
     check("its tables and indexes", texts_of(path), texts_of(new))
 

@@ -21,6 +21,15 @@ LONGEST_RUN = 600  # seconds, on a loaded machine with a slow disk
 # A place in memory for libraries to which much is sent, so that no test waits for a disk; else that of other files.
 IN_MEMORY = "/dev/shm" if os.access("/dev/shm", os.W_OK) else None
 
+# The five indexes that came last in schema 3. A library that was made before lacks them.
+LAST_INDEXES = [
+    "CREATE INDEX copies_title ON copies (title, copy)",
+    "CREATE INDEX lines_patron ON lines (patron, line)",
+    "CREATE INDEX holds2_state ON holds2 (state, hold)",
+    "CREATE INDEX loans3_of_copy ON loans3 (copy, loan)",
+    "CREATE INDEX copies_condition ON copies (condition, copy)",
+]
+
 # A key, the words, and the line that answers them.
 GROUND = [
     ("g1", ["begin-day", "2026-03-02"], "ok"),
@@ -194,10 +203,3 @@ def type_page(room, page, least):
         check(f"the command of {words}", command, "./circ")
         run = subprocess.run([CIRC, *words], capture_output=True, timeout=LONGEST_RUN, cwd=room)
         check(f"{words}", (run.stdout.decode(), run.returncode), (answer, status_of(answer.partition("\n")[0])))
-
-
-def indexes_by_hand():
-    """The five statements that docs/OPERATIONS.md gives for a library that was made before there were these
-    indexes."""
-    with open(os.path.join(TOP, "docs", "OPERATIONS.md"), encoding="utf-8") as file:
-        return re.findall(r"^    (CREATE INDEX .*);$", file.read(), re.MULTILINE)
