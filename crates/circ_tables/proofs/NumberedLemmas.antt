@@ -2,11 +2,12 @@
 use Rattle.std.proofs.Common.{arith, negsuc, min, Ok, ◌≤◌, ◌<◌, ◌≡◌, inl, inr, ℕ, pos, Bool, true, false, not, ◌==◌, ◌&&◌, ◌||◌, zero, suc}
 use Rattle.std.proofs.Common.{◌≢◌, ◌+◌, length, cond, List, [], ◌∷◌, ◌++◌, map, Option, Some, None, Result, refl, sym, ap, subst, ◌∙◌}
 use Rattle.std.proofs.Common.{true≢false}
-use Rattle.std.specs.Prelude.{bytes_eq, option_map, slice_get}
+use Rattle.std.specs.Prelude.{bytes_eq, is_some, option_map, slice_get}
 use Rattle.std.specs.List.{list_all, list_any, flat_map, filter_map}
-use Rattle.std.proofs.lemmas.Bool.{cases_Bool, and_parts}
+use Rattle.std.proofs.lemmas.Bool.{cases_Bool, and_parts, ne_eqb}
 use Rattle.std.proofs.lemmas.Bool.Decides.{Decides-eqb}
-use Rattle.sqlite.specs.Held.{Held}
+use Rattle.sqlite.specs.Effect.{Database}
+use Rattle.sqlite.specs.Held.{Held, state}
 use Rattle.sqlite.specs.Store.{Ghosts}
 use Rattle.sqlite.specs.declared.transaction.Transaction.{Transaction}
 use Rattle.sqlite.specs.declared.types.Value.TheVariants.{Int}
@@ -14,7 +15,8 @@ use Rattle.sqlite.specs.Given.{IsPlain}
 use Rattle.sqlite.specs.Listing.{understood}
 use Rattle.sqlite.specs.Order.{Row, column}
 use Rattle.sqlite.specs.Schema.{Schema}
-use Rattle.sqlite.specs.State.{State, IsUnchanged, Shown}
+use Rattle.sqlite.specs.Program.{IsProgramAnswer}
+use Rattle.sqlite.specs.State.{State, HasCleanDisk, IsUnchanged, Shown}
 use Rattle.sqlite.specs.Command.{Command}
 use Rattle.sqlite.specs.Term.{Term, lit}
 use Rattle.sqlite.specs.Table as sql
@@ -27,15 +29,17 @@ use Rattle.sqlite_rules.specs.Action.{work_for}
 use Rattle.sqlite_rules.specs.Keys.{conflicts, shares}
 use Rattle.sqlite_tied.specs.Listing.{each_column}
 use Rattle.sql_maps.specs.Calls.{FindsRow}
-use Rattle.sql_maps.specs.Maps.{Map, Maps, Holds, Steps, First, Count, Listed, cells, key_at, put as put_map, put_at, take_at, take_out}
+use Rattle.sqlite.proofs.Callers.{reads_as}
+use Rattle.sql_maps.specs.Maps.{Map, Maps, Holds, IsMap, Steps, First, Count, Listed, cells, key_at, put as put_map, put_at, take_at, take_out}
 use Rattle.sql_maps.specs.Batches.{FirstRows}
 use Rattle.sql_maps.proofs.AnswerLemmas.{shown_of, passes}
 use Rattle.sql_maps.proofs.CallLemmas.{put_steps, take_steps}
 use Rattle.sql_maps.proofs.FindLemmas.{finds_one}
 use Rattle.sql_maps.proofs.LookLemmas.{Looks, look, first_found, list_found, count_found, count_gives}
 use Rattle.sql_maps.proofs.BatchLemmas.{batch_found}
-use Rattle.sql_maps.proofs.ReadLemmas.{get_row}
+use Rattle.sql_maps.proofs.ReadLemmas.{get_row, got as got_some, got_none, shown_unchanged}
 use Rattle.sql_maps.proofs.UniqueLemmas.{or_false, alone_by_rowid}
+use Rattle.sql_maps.proofs.Words.{over}
 use Rattle.sql_maps.proofs.WriteLemmas.{Fixed}
 use Rattle.terms.specs.Pictures.{Picture, put as put_in}
 use Rattle.terms.specs.declared.fault.Fault.{Fault}
@@ -46,6 +50,7 @@ use Rattle.circ_tables.specs.Numbered.{IsNumbered, IsNumberTable, IsRead, batch_
 use Rattle.circ_tables.specs.Numbered.{next_given, put_terms, put_shows}
 use Rattle.circ_tables.specs.Puts.{Runs, PutsRow, TakesRow}
 use Rattle.circ_tables.specs.Reading.{Table, FirstEntry, AllEntries, EntriesInside, CountShown, Gets, Selects, Counts, Lists, ListsInside}
+use Rattle.circ_tables.specs.Reading.{TellsRowInside, WorksInside}
 use Rattle.circ_tables.specs.Selections.{is_any, is_next}
 use Rattle.circ_tables.specs.Shape.{schema, schema_at, HasTable}
 use Rattle.circ_tables.specs.Texts.{names_of, put_text, take_text, get_text, all_text}
@@ -54,6 +59,7 @@ use Rattle.circ_tables.proofs.EncodingLemmas.{put_encoded, take_encoded, number_
 use Rattle.circ_tables.proofs.InverseLemmas.{told}
 use Rattle.circ_tables.proofs.BatchLemmas.{there}
 use Rattle.circ_tables.proofs.PutLemmas.{apart, puts_of}
+use Rattle.circ_tables.proofs.QueryLemmas.{shown_mode}
 use Rattle.circ_tables.proofs.ReadingLemmas.{gets_of, selects_of, counts_of, lists_of, lists_inside}
 use Rattle.circ_tables.proofs.ShownLemmas.{are_encoded}
 
@@ -181,6 +187,47 @@ module _ {R : Type 0} {t : Table ℕ R} {number_of : R → ℕ} (is : IsNumberTa
       (λ maps P encodes. subst (λ j. maps t.place j ≡ option_map t.cells (t.rows P k)) (sym (is.keyed k))
       ((is.rows_are maps P encodes).there k tt))
       (λ P legal r there. (is.legal P legal k r there).1) g old new result entry
+
+  -- whether a number has a row, from the rows that its text shows
+  some_mapped : {A B : Type 0} (f : A → B) (o : Option A) → is_some (option_map f o) ≡ is_some o
+  some_mapped f None = refl
+  some_mapped f (Some a) = refl
+
+  module _ (k : ℕ) where
+    at_key : (db : Database) (m : Map) → IsMap t.shape (db.trees t.shape.tree) m → (rows : List Row)
+        → IsProgramAnswer [] (over t.shape.tree by_key (each_column 1 t.shape)) db.trees (number_key k) rows
+        → not (length rows == 0) ≡ is_some (m (number_key k))
+    at_key db m is [] answer = ap is_some (sym (got_none schema t.place t.shape texts.listed by_key (each_column 1 t.shape) (number_key k) (number_key k)
+        (finds_one t.shape (Int (pos k)) texts.primary refl) (texts.shows (number_key k)) (names_of t.shape) db.trees m is answer))
+    at_key db m is (v ∷ more) answer = ap not (ne_eqb (length (v ∷ more)) 0 (λ same. omega (arith, same))) ∙ ap is_some (sym (got_some schema t.place t.shape texts.listed by_key (each_column 1 t.shape) (number_key k) (number_key k)
+        (finds_one t.shape (Int (pos k)) texts.primary refl) (texts.shows (number_key k)) (names_of t.shape) db.trees m (v ∷ more) is answer v (inl refl)))
+
+    key_shown : (old new : State) (rows : List Row) → Shown (get_text t.shape) (number_key k) old new rows → (maps : Maps) → Holds schema old.now maps
+        → (not (length rows == 0) ≡ is_some (maps t.place (t.key k))) × IsUnchanged old new
+    key_shown old new rows shown maps holds =
+        let read = reads_as (get_text t.shape) (number_key k) old new schema holds.schema_is _ texts.get.command_is texts.get.bare texts.get.unlisted rows shown in (
+          at_key old.now (maps t.place) (holds.tables t.place t.shape texts.listed) rows read.answer
+              ∙ ap (λ j. is_some (maps t.place j)) (sym (is.keyed k)),
+          shown_unchanged (get_text t.shape) (number_key k) old new schema holds.schema_is texts.get.bare rows shown,
+        )
+
+    pub tells_row : {S : Type 0} (g : Ghosts S) (old new : Transaction S) (rows : List Row) (there : Bool) → there ≡ not (length rows == 0)
+        → WorksInside g old new
+        → (HasCleanDisk (state g new.conn.now) → Shown (get_text t.shape) (number_key k) (state g old.conn.now) (state g new.conn.now) rows)
+        → TellsRowInside t k g old new (Ok there)
+    tells_row g old new rows there same works shown = record {
+      works = works;
+      inside = λ clean begun. shown_mode (get_text t.shape) (number_key k) (state g old.conn.now) (state g new.conn.now) rows (shown clean) ∙ begun;
+      tells = λ clean maps holds.
+          let both = key_shown (state g old.conn.now) (state g new.conn.now) rows (shown clean) maps holds in
+          (same ∙ both.0, both.1);
+      shows = λ clean P p.
+          let both = key_shown (state g old.conn.now) (state g new.conn.now) rows (shown clean) p.maps p.holds in
+          let kept = ap (λ j. is_some (p.maps t.place j)) (is.keyed k) ∙ ap is_some ((is.rows_are p.maps P p.encodes).there k tt)
+          ∙ some_mapped t.cells (t.rows P k) in
+          (same ∙ both.0 ∙ kept, both.1);
+      fault = tt;
+    }
 
   -- ---- rows that pass a test: the first one, all of them, a batch of them, and how many they are
   module _ (tests : List Term) (text : List ℕ) (given : Row) (good : Row → Bool) (reads : (r : Row) → passes tests given r ≡ good (cells t.shape r)) where

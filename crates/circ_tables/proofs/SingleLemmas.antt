@@ -35,6 +35,7 @@ use Rattle.circ_tables.specs.Shape.{schema, schema_at, later_tables, later_index
 use Rattle.circ_tables.proofs.FoundLemmas.{all_meta_plain, lone_meta, only_meta}
 use Rattle.circ_tables.proofs.DayLemmas.{day_of, days_are, days_shown}
 use Rattle.circ_tables.proofs.InverseLemmas.{meta_row_told, meta_alone, reply_told, row_sound}
+use Rattle.circ_tables.proofs.QueryLemmas.{shown_mode}
 use Rattle.circ_tables.proofs.ReadingLemmas.{looks_of, read_of, if_ok}
 use Rattle.circ_tables.proofs.TableLemmas.{closed_days_within, kept_within}
 
@@ -110,6 +111,8 @@ pub meta_inside : {S : Type 0} (g : Ghosts S) (old new : Transaction S) (result 
     → MetaRead g old.conn.now new.conn.now result → GetsMetaInside g old new result
 meta_inside g old new result works is = record {
   works = works;
+  inside = λ clean begun. if_ok result (λ r shown. shown_mode ALL_META.now [] (state g old.conn.now) (state g new.conn.now) (meta_cells r ∷ []) shown ∙ begun)
+      (is.shown clean);
   gets = λ n has. meta_gets g old.conn.now new.conn.now result is n;
   limits = is.limits;
   stored = λ n has. meta_stored g old.conn.now new.conn.now result is n;

@@ -1,6 +1,6 @@
 -- What a read leaves, and what it says of a row.
-use Rattle.std.specs.Prelude.{◌≡◌, ◌≢◌, ◌⊎◌, ◌≤◌, ◌<◌, ℕ, Bool, false, List, map, length, Option, Some, None, option_map, Err}
-use Rattle.std.specs.Prelude.{Result, IfOk, IfErr, IfSome, IsTrue, IsUtf8}
+use Rattle.std.specs.Prelude.{◌≡◌, ◌≢◌, ◌⊎◌, ◌≤◌, ◌<◌, ℕ, Bool, false, List, map, length, Option, Some, None, option_map, is_some, Err}
+use Rattle.std.specs.Prelude.{Result, IfOk, IfErr, IfSome, OnOk, IsTrue, IsUtf8}
 use Rattle.std.specs.List.{All}
 use Rattle.std.specs.Option.{option_to_list}
 use Rattle.std.specs.Result.{result_err}
@@ -122,6 +122,11 @@ pub record WorksInside {S : Type 0} (g : Ghosts S) (old new : Transaction S) : T
       → KeepsCommit (state g old.conn.now) (state g new.conn.now)
   pub survives : Survives (state g old.conn.now) (state g new.conn.now) (λ _. ⊥)
 
+-- After an answer the transaction goes on, whatever tables exist.
+abbrev pub StaysInside : {S A : Type 0} → Ghosts S → Transaction S → Transaction S → Result A Fault → Type 0
+StaysInside g old new result = HasCleanDisk (state g new.conn.now) → IsTrue (state g old.conn.now).in_transaction
+    → OnOk result (IsTrue (state g new.conn.now).in_transaction)
+
 -- A text was asked inside a transaction for all its rows, which the list has in order. Only the database can
 -- refuse it.
 pub record AsksInside {S L : Type 0} (items : L → List Row) (text : List ℕ) (given : Row)
@@ -206,6 +211,16 @@ pub record Gets {S K R : Type 0} (t : Table K R) (key : K)
   pub sound : IsSoundIn (λ P. IfSome (t.rows P key) t.IsLegal) g old new result
   pub view : Views (λ P row. row ≡ t.rows P key) g old new result
 
+-- Whether a row stands under the key, whatever its columns, told inside a transaction over the tables of the
+-- newest schema. If it is told, nothing is changed, so the transaction goes on. Only the database can refuse it.
+pub record TellsRowInside {S K R : Type 0} (t : Table K R) (key : K)
+    (g : Ghosts S) (old new : Transaction S) (result : Result Bool Fault) : Type 0 where
+  pub works : WorksInside g old new
+  pub inside : StaysInside g old new result
+  pub tells : OfMaps (λ maps there. there ≡ is_some (maps t.place (t.key key))) g old.conn.now new.conn.now result
+  pub shows : OfPicture (λ P there. there ≡ is_some (t.rows P key)) g old.conn.now new.conn.now result
+  pub fault : IfErr result (λ fault. fault ≡ Database)
+
 -- The only row of `meta`. The fault of a stored row means that it is outside its limits or not the only one.
 pub record GetsMeta {S : Type 0} (g : Ghosts S) (old new : Held S) (result : Result MetaRow Fault) : Type 0 where
   pub looks : Looks g old new
@@ -223,6 +238,7 @@ pub record GetsMeta {S : Type 0} (g : Ghosts S) (old new : Held S) (result : Res
 -- transaction goes on.
 pub record GetsMetaInside {S : Type 0} (g : Ghosts S) (old new : Transaction S) (result : Result MetaRow Fault) : Type 0 where
   pub works : WorksInside g old new
+  pub inside : StaysInside g old new result
   pub gets : (n : ℕ) → HasTable 1 n
       → OfMapsAt (schema_at n) (λ maps row. maps meta_place (number_key 1) ≡ Some (meta_cells row)) g old.conn.now new.conn.now result
   pub limits : IfOk result IsMeta

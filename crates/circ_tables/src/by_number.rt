@@ -7,11 +7,11 @@ ghost use Rattle.sql_maps.specs.Maps.{Listed};
 ghost use Rattle.sql_maps.specs.Batches.{FirstRows};
 ghost use Rattle.circ_tables.specs.Numbered.{AreTexts, IsNumberTable, next_text, next_given};
 ghost use Rattle.circ_tables.specs.Puts.{Runs, PutsRow, TakesRow};
-ghost use Rattle.circ_tables.specs.Reading.{Gets, Lists, ListsInside};
+ghost use Rattle.circ_tables.specs.Reading.{Gets, Lists, ListsInside, TellsRowInside};
 ghost use Rattle.circ_tables.specs.Selections.{is_any, is_next, least_after};
 ghost use Rattle.circ_tables.specs.declared.by_number.TheConstants.{BATCH_ROWS};
 
-use crate::sql_calls::run;
+use crate::sql_calls::{all_rows_inside, run};
 use crate::table::{Table, row_of, rows_inside, rows_of};
 use sqlite::types::ToSql;
 use sqlite::{Alter, Connection, Transaction, params};
@@ -107,6 +107,17 @@ pub fn get_row<T: Numbered, S: Alter>(
     ensures { Gets T.table (T.Id.value number) S.Store conn.old conn.new result }
 {
     row_of(conn, memory, T::texts().get, params![number.row_number()])
+}
+
+/// Returns whether a row has this number, inside a transaction, which goes on. Fault 91.
+pub fn has_row_inside<T: Numbered, S: Alter>(
+    tx: &mut Transaction<'_, S>,
+    number: u32,
+) -> Result<bool, Fault>
+    ensures { TellsRowInside T.table number S.Store tx.old tx.new result }
+{
+    let rows = all_rows_inside(tx, T::texts().get, params![number])?;
+    Ok(!rows.is_empty())
 }
 
 /// Reads all rows, by number. Faults 90, 91, 93.
