@@ -1,6 +1,7 @@
 pub mod Results
 pub mod Unchanged
 pub mod Accepted
+pub mod FreeNumbers
 pub mod Looking
 pub mod Founds
 pub mod RefusingAnothers

@@ -1,13 +1,14 @@
 -- How the desk answers a request, given tables that show a history.
 use Rattle.std.specs.Prelude.{◌≡◌, Bool, true, false, List, ◌∷◌, ℕ, Option, Some, None, is_none, Result, Err, IfOk, OnOk, OnErr, IsTrue}
 use Rattle.store.specs.Library.{Ghosts, Held, State, state, IsClean, IsOpen, HasCleanDisk, HasTables, IsAsItWas, StaysReady}
+use Rattle.store.specs.Numbers.{AreFree}
 use Rattle.store.specs.Reads.{IsUsed}
 use Rattle.store.specs.Stops.{KeepsPicture, LeavesPicture, LeavesEither}
 use Rattle.circ_core.specs.Decides.{event}
 use Rattle.circ_core.specs.Views.{IsViewOf}
 use Rattle.circ_core.specs.declared.views.View.{View}
 use Rattle.circ_tables.specs.Encoding.{HasPicture}
-use Rattle.terms.specs.Limits.{IsOwner}
+use Rattle.terms.specs.Limits.{IsOwner, IsMeta}
 use Rattle.terms.specs.Pictures.{Picture}
 use Rattle.terms.specs.declared.command.Owner.{Owner}
 use Rattle.terms.specs.declared.command.Owner.TheVariants.{Desk, Patron}
@@ -159,8 +160,10 @@ pub record Records {S A : Type 0} (owner : Owner) (made : Picture → Picture)
   -- the step limit is as it was, and only a failure of the disk shuts the database
   pub ready : StaysReady (state g old) (state g new)
   pub clean : IsClean g new → IsClean g old
-  -- fault 93 never occurs
-  pub sound : result ≡ Err Stored → ⊥
+  -- fault 93 never comes over a picture whose row of `meta` is within its limits, if the numbers that are given
+  -- have no row
+  pub sound : IsClean g new → result ≡ Err Stored → (P : Picture) → HasPicture (state g old).now P
+      → IsMeta P.meta → ¬ AreFree P (made P).meta
   -- on success the tables show the picture after it
   pub done : IsClean g new → IsOwner owner
       → OnOk result ((P : Picture) → HasPicture (state g old).now P

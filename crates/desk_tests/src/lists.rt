@@ -181,6 +181,30 @@ fn a_list_ends_at_a_fault_after_the_replies_before_it(rt: HostRuntime) -> Result
     Ok(())
 }
 
+/// Requests after the next loan number was set back: what gives no number is handled, and the
+/// number of loan 1 isn't given again.
+const SET_BACK: &str = "desk b1 check-in 10 1 -> fine 0 shelf 1
+desk b2 check-out 2 11 1 -> none";
+
+#[test]
+fn a_number_that_has_a_row_is_not_given_again(rt: HostRuntime) -> Result<(), Fail> {
+    let alloc = rt.alloc();
+    let mut desk = ground(alloc)?;
+    check(
+        alloc,
+        &mut desk,
+        "desk a1 check-out 1 10 1 -> loan 1 due 2026-03-09",
+    )?;
+    let mut conn = connection(desk);
+    conn.execute("UPDATE meta SET next_loan = 1", &[])?;
+    let mut desk = opened(conn)?;
+    let (answered, fault) = runs(alloc, &mut desk, SET_BACK)?;
+    assert!(rt; answered == 1 && fault == Some(Fault::Stored));
+    let found = counts(&mut store_of(desk), alloc)?;
+    assert!(rt; found[0] == 1 && found[8] == 1);
+    Ok(())
+}
+
 /// An empty database inside a transaction.
 fn begun(alloc: Global) -> Result<Connection<MemStore>, Fail> {
     let mut conn = Connection::open_in_memory(alloc)?;

@@ -101,7 +101,8 @@ impl<S: Alter> Store<S> {
     }
 
     /// Makes a decision's changes and keeps its request's row in one transaction: all or nothing.
-    /// Fault 91 only.
+    /// Faults 91; 93 if a new loan, hold or line would get a number that has a row, or `meta` can't
+    /// be read.
     pub fn commit(&mut self, changes: &Changes<'_>, kept: &KeptPut<'_>) -> Result<(), Fault>
         ensures { Commits changes.now kept.now S.Store self.old self.new result }
     {

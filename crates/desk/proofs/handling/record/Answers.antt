@@ -1,4 +1,3 @@
-use Rattle.std.proofs.Common.{rules}
 use Rattle.store.specs.Library.{state}
 use Rattle.desk.proofs.Results.{on-err}
 use Rattle.desk.proofs.Unchanged.{as-left}
@@ -8,7 +7,7 @@ pub returns : goal.returns
 returns g c = record {
   ready = c.commit.ensures.ready;
   clean = c.commit.ensures.clean;
-  sound = search rules;
+  sound = c.commit.ensures.gives.sound;
   done = c.commit.ensures.shown;
   tables = c.commit.ensures.tables;
   failed = λ disk is_open. on-err c.commit.result
