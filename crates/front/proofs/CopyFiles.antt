@@ -48,14 +48,14 @@ shorter cfg s fields field (c ∷ rest) p e =
     go false q more = less (more (rw q at e))
 
 -- the records that were reached are the first of all of them
-abbrev Splits : Config → ℕ → State → List ℕ → List Fields → State → List ℕ → Type 0
+abbrev pub Splits : Config → ℕ → State → List ℕ → List Fields → State → List ℕ → Type 0
 Splits cfg n s xs rs s2 ys = (m : ℕ) × (records_from cfg n s xs ≡ rs ++ records_from cfg m s2 ys)
 
 none_left : (cfg : Config) (r : Fields) (rs : List Fields) (s s2 : State) (xs ys : List ℕ) → s ≡ st.StartRecord → xs ≡ [] → Reached cfg s xs (r ∷ rs) s2 ys → ⊥
 unfolding Reached next_record
 none_left cfg r rs s s2 xs ys hs hx h = let bad = rw (hs, hx) at h.1 in absurd (cc)
 
-splits : (cfg : Config) (n : ℕ) (s : State) (xs : List ℕ) (rs : List Fields) (s2 : State) (ys : List ℕ) → length xs < n
+pub splits : (cfg : Config) (n : ℕ) (s : State) (xs : List ℕ) (rs : List Fields) (s2 : State) (ys : List ℕ) → length xs < n
     → Reached cfg s xs rs s2 ys → Splits cfg n s xs rs s2 ys
 unfolding Reached records_from
 splits cfg n s xs [] s2 ys long h = (n, rw (h.0, h.1) refl)
@@ -75,7 +75,7 @@ splits cfg (suc n) s xs (r ∷ rs) s2 ys long h = go rs (shorter cfg s [] [] xs 
         done (x ∷ qs) q = absurd (none_left cfg x qs h.0.1 s2 h.0.2 ys end.1 end.2 (rw q at rest))
 
 -- a record that ends the rows is no row of them
-clash : (n : ℕ) (g : Fields) (row : FileRow) → IsNoRow g ⊎ (MOST_ROWS ≤ n) → IsRow g row → n < MOST_ROWS → ⊥
+pub clash : (n : ℕ) (g : Fields) (row : FileRow) → IsNoRow g ⊎ (MOST_ROWS ≤ n) → IsRow g row → n < MOST_ROWS → ⊥
 clash n g row (inl bad) good few = bad.none row good
 clash n g row (inr many) good few = omega (arith, many, few)
 
@@ -220,12 +220,12 @@ which_end end true read memory = inl (read refl)
 which_end end false read memory = inr (memory refl)
 
 -- a whole file: its header, and the records after it
-next_end : (cfg : Config) (m : ℕ) (s : State) (ys : List ℕ) → next_record cfg s [] [] ys ≡ None → records_from cfg m s ys ≡ []
+pub next_end : (cfg : Config) (m : ℕ) (s : State) (ys : List ℕ) → next_record cfg s [] [] ys ≡ None → records_from cfg m s ys ≡ []
 unfolding records_from
 next_end cfg zero s ys e = refl
 next_end cfg (suc m) s ys e = rw e refl
 
-joined : (cfg : Config) (s s1 s2 : State) (xs ys zs : List ℕ) (header : Fields) (others : List Fields)
+pub joined : (cfg : Config) (s s1 s2 : State) (xs ys zs : List ℕ) (header : Fields) (others : List Fields)
     → Reached cfg s xs (header ∷ []) s1 ys → Reached cfg s1 ys others s2 zs
     → Reached cfg s xs (header ∷ others) s2 zs
 unfolding Reached

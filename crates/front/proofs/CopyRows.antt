@@ -1,5 +1,5 @@
 -- The fields of a row, each in its place.
-use Rattle.std.proofs.Common.{◌⊎◌, inl, inr, ◌≤◌, ◌≡◌, ◌∙◌, ◌<◌, ◌+◌, ◌^◌, ℕ, true, false, refl, sym, ap, subst, List, [], ◌∷◌, length}
+use Rattle.std.proofs.Common.{◌⊎◌, inl, inr, ◌≤◌, ◌≡◌, ◌∙◌, ◌<◌, ◌+◌, ◌^◌, ℕ, Bool, true, false, refl, sym, ap, subst, List, [], ◌∷◌, length}
 use Rattle.std.proofs.Common.{Option, Some, None, arith, zero, suc, get_or}
 use Rattle.std.specs.Prelude.{codes, IfSome, IsUtf8}
 use Rattle.std.specs.Borrow.{Bor}
@@ -13,6 +13,7 @@ use Rattle.terms.specs.Commands.{texts}
 use Rattle.terms.specs.Laws.{IsAmount}
 use Rattle.front.specs.Copies.{Fields, IsRow, IsNoRow, row_fields}
 use Rattle.front.specs.CopyReading.{HasNumbers}
+use Rattle.front.specs.Checking.{HaveNumbers}
 use Rattle.front.specs.declared.copies.FileRow.{FileRow}
 
 pub decimal-IsUtf8 : (n : ℕ) → n < 2 ^ 32 → IsUtf8 (decimal n)
@@ -107,6 +108,34 @@ pub row_made : (fields : Fields) (found : Option FileRow) (text : List ℕ) → 
     → IfSome found (λ row. row.text ≡ text) → IfSome found (λ row. HasNumbers fields row) → IfSome found (λ row. IsRow fields row)
 row_made fields None text long closed there good same numbers = tt
 row_made fields (Some row) text long closed there good same numbers = row_is fields row text long closed there good same numbers
+
+-- if all else is right, a text that makes no row is no name
+pub no_text : (fields : Fields) (text : List ℕ) → IsNoRow fields → length fields ≡ 7 → field_at fields 6 ≡ Some (codes "end")
+    → HaveNumbers fields → field_at fields 2 ≡ Some text → IsUtf8 text → is_name text ≡ false
+no_text fields text none long closed numbers there utf8 = go (is_name text) refl
+  where
+    row : FileRow
+    row = record {
+      copy = numbers.copy.0;
+      title = numbers.title.0;
+      text = text;
+      kind = numbers.kind.0;
+      home = numbers.home.0;
+      price = numbers.price.0;
+    }
+
+    has : HasNumbers fields row
+    has = record {
+      copy = numbers.copy.1;
+      title = numbers.title.1;
+      kind = numbers.kind.1;
+      home = numbers.home.1;
+      price = numbers.price.1;
+    }
+
+    go : (b : Bool) → is_name text ≡ b → is_name text ≡ false
+    go true e = absurd (none.none row (row_is fields row text long closed there (e, utf8) refl has))
+    go false e = e
 
 -- a row is told by its fields
 abbrev make : ℕ → ℕ → List ℕ → ℕ → ℕ → ℕ → FileRow

@@ -1,4 +1,5 @@
 pub mod Copies
+pub mod Checking
 pub mod CopyReading
 pub mod KeyReading
 pub mod Keys

@@ -19,10 +19,10 @@ use std::str;
 use terms::{BranchId, Cents, Command, CopyId, CopyKind, Name, TitleId, read_number};
 
 /// The fields of the first record.
-const HEADER: [&str; 7] = ["copy", "title", "text", "kind", "home", "price", "end"];
+pub(crate) const HEADER: [&str; 7] = ["copy", "title", "text", "kind", "home", "price", "end"];
 
 /// The last word of each row, so that a truncated row is noticed.
-const CLOSING: &str = "end";
+pub(crate) const CLOSING: &str = "end";
 
 /// The most rows in a file.
 pub const MOST_ROWS: u32 = 100_000;
@@ -70,7 +70,7 @@ pub enum CopyEnd {
 }
 
 /// Returns a field's text, if it exists and is UTF-8.
-fn text_at(fields: &ByteRecord, place: usize) -> Option<&str>
+pub(crate) fn text_at(fields: &ByteRecord, place: usize) -> Option<&str>
     ensures some { IfSome result (λ text. field_at (fields_of fields.now) place ≡ Some text.now) }
     ensures none { IfNone result ((text : List ℕ) → IsUtf8 text
         → field_at (fields_of fields.now) place ≢ Some text) }
@@ -82,7 +82,7 @@ fn text_at(fields: &ByteRecord, place: usize) -> Option<&str>
 }
 
 /// Reads the number in a field.
-fn number_at(fields: &ByteRecord, place: usize) -> Option<u32>
+pub(crate) fn number_at(fields: &ByteRecord, place: usize) -> Option<u32>
     ensures some { IfSome result (λ n. HasNumber (fields_of fields.now) place n) }
     ensures none { IfNone result ((n : ℕ) → HasNumber (fields_of fields.now) place n → ⊥) }
 {
@@ -90,7 +90,7 @@ fn number_at(fields: &ByteRecord, place: usize) -> Option<u32>
 }
 
 /// Returns whether a field is this word.
-fn is_word_at(fields: &ByteRecord, place: usize, word: &str) -> bool
+pub(crate) fn is_word_at(fields: &ByteRecord, place: usize, word: &str) -> bool
     ensures { ((result ≡ true) ↔ (field_at (fields_of fields.now) place ≡ Some word.now)) }
 {
     match text_at(fields, place) {
@@ -100,7 +100,7 @@ fn is_word_at(fields: &ByteRecord, place: usize, word: &str) -> bool
 }
 
 /// Returns whether the fields are these words.
-fn are_words(fields: &ByteRecord, words: &[&str]) -> bool
+pub(crate) fn are_words(fields: &ByteRecord, words: &[&str]) -> bool
     ensures { ((result ≡ true) ↔ (fields_of fields.now ≡ texts words.now)) }
 {
     if fields.len() != words.len() {
@@ -136,7 +136,7 @@ fn row_with(fields: &ByteRecord, text: Name) -> Option<FileRow>
 }
 
 /// Reads a row from a record.
-fn read_row(alloc: Global, fields: &ByteRecord) -> Result<Option<FileRow>, AllocError>
+pub(crate) fn read_row(alloc: Global, fields: &ByteRecord) -> Result<Option<FileRow>, AllocError>
     ensures good { IfOk result (λ found. IfSome found (λ row. IsRow (fields_of fields.now) row)) }
     ensures bad { IfOk result (λ found. IfNone found (IsNoRow (fields_of fields.now))) }
 {
@@ -207,7 +207,7 @@ fn read_rows<R: Read + Drop>(alloc: Global, file: Reader<R>) -> (Vec<FileRow>, C
 }
 
 /// Makes a reader of records of any length that treats the first like any other.
-fn record_reader<R: Read>(alloc: Global, reader: R) -> Reader<R>
+pub(crate) fn record_reader<R: Read>(alloc: Global, reader: R) -> Reader<R>
     ensures plain { IsPlain result }
     ensures start { reader_state result ≡ StartRecord }
     ensures source { source_of R.remaining result ≡ option_map strip_bom (R.remaining reader) }

@@ -1,6 +1,6 @@
 //! Copies files as readers bring them: bad rows, a row too many, and reads that fail at each byte.
 
-use front::{CopyEnd, read_copies};
+use front::{BadRow, CheckEnd, CopyEnd, RowFlaw, check_copies, read_copies};
 use std::alloc::Global;
 use std::io::Read;
 use std::process::Abort;
@@ -70,6 +70,46 @@ fn bad_rows_end_a_file(rt: HostRuntime) -> Result<(), Fail> {
     is_bad(&rt, alloc, b"51,501,M\xe4rz,1,1,1500,end\n", 3)?;
     // an unclosed quote spans lines, so no line ends that row
     is_bad(&rt, alloc, b"51,501,\"Maps,1,1,1500,end\n", 4)
+}
+
+/// The flaws of those rows.
+const FLAWS: [RowFlaw; 4] = [
+    RowFlaw::Count(6),
+    RowFlaw::NotNumber(0),
+    RowFlaw::Closing,
+    RowFlaw::Text(0),
+];
+
+#[test]
+fn a_check_finds_all_bad_rows(rt: HostRuntime) -> Result<(), Fail> {
+    let alloc = rt.alloc();
+    let mut bytes: Vec<u8> = Vec::new(alloc);
+    bytes.extend_from_slice(BEGUN.as_bytes())?;
+    for row in BAD {
+        bytes.extend_from_slice(row.as_bytes())?;
+        bytes.extend_from_slice(GOOD)?;
+    }
+    let found = check_copies(alloc, bytes.as_slice());
+    assert!(&rt; (found.header, found.good, found.end) == (None, 5, CheckEnd::Whole));
+    let mut number = 0u64;
+    for (row, flaw) in found.bad.as_slice().iter().zip(FLAWS) {
+        number = number.wrapping_add(2);
+        assert!(&rt; *row == BadRow { number, flaw }, "{row:?}");
+    }
+    assert!(&rt; number == 8);
+    Ok(())
+}
+
+#[test]
+fn a_check_goes_up_to_a_failed_read(rt: HostRuntime) -> Result<(), Fail> {
+    let alloc = rt.alloc();
+    let found = check_copies(alloc, Drip::failing(BEGUN.as_bytes()));
+    assert!(&rt; (found.header, found.good, found.end) == (None, 1, CheckEnd::Read));
+    let found = check_copies(alloc, Drip::failing(b"copy,"));
+    assert!(&rt; (found.header, found.good, found.end) == (None, 0, CheckEnd::Read));
+    let found = check_copies(alloc, b"copy;title\n".as_slice());
+    assert!(&rt; (found.header, found.good) == (Some(RowFlaw::Separator), 0));
+    Ok(())
 }
 
 /// A good row.
