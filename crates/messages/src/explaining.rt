@@ -23,10 +23,20 @@ fn last_number(line: &[u8]) -> u32 {
     number
 }
 
-/// Returns the meaning of a refusal, fault or bad-row line, if there is more to say.
+/// Returns the number of the bad row that the line is about, if it is.
+pub fn bad_row_in(line: &ToldLine) -> Option<u32> {
+    let line = line.as_bytes();
+    if line.ends_with(b" bad") {
+        Some(last_number(line))
+    } else {
+        None
+    }
+}
+
+/// Returns the meaning of a refusal or fault line, if there is more to say.
 fn text_of(line: &[u8]) -> Option<&'static str> {
     if line.ends_with(b" bad") {
-        return Some("the row is not copy,title,text,kind,home,price,end, or no row may follow");
+        return None;
     }
     match saying(line) {
         Some(text) => Some(text),
@@ -34,7 +44,7 @@ fn text_of(line: &[u8]) -> Option<&'static str> {
     }
 }
 
-/// Writes one line that explains a refusal, a fault or a bad row.
+/// Writes one line that explains a refusal or a fault.
 pub fn explain<W: Write>(writer: &mut W, line: &ToldLine) -> Result<(), WriteFault> {
     match text_of(line.as_bytes()) {
         Some(text) => write_pieces(writer, &[b"circ: ", text.as_bytes(), b"\n"]),

@@ -14,7 +14,7 @@ struct RunForm {
 }
 
 /// The runs of the program.
-const RUNS: [RunForm; 9] = [
+const RUNS: [RunForm; 10] = [
     RunForm {
         name: "file",
         rest: "LIBRARY KEY WORD ...",
@@ -22,6 +22,10 @@ const RUNS: [RunForm; 9] = [
     RunForm {
         name: "import",
         rest: "LIBRARY COPIES",
+    },
+    RunForm {
+        name: "import",
+        rest: "--check COPIES",
     },
     RunForm {
         name: "report",
