@@ -5,6 +5,7 @@ pub mod Imports
 mod Sent
 pub mod Halls
 mod Parts
+mod CheckedRows
 mod CountedRows
 mod SoundClaims
 mod SoundBindings

@@ -1,5 +1,5 @@
 -- Which words are a run of the program, and which run they are.
-use Rattle.std.specs.Prelude.{◌≡◌, ◌≤◌, ◌<◌, ◌^◌, ℕ, true, List, [], ◌∷◌, length, codes}
+use Rattle.std.specs.Prelude.{◌≡◌, ◌≢◌, ◌≤◌, ◌<◌, ◌^◌, ℕ, true, List, [], ◌∷◌, length, codes}
 use Rattle.std.specs.Fmt.{decimal}
 use Rattle.calendar.specs.Days.{IsDayNumber, day_text}
 use Rattle.terms.specs.Forms.{is_card_key, is_outside_key}
@@ -42,6 +42,7 @@ pub record AreNoKeys (word : List ℕ) : Type 0 where
 abbrev pub run_words : Run → List (List ℕ)
 run_words (run.File path key words) = codes "file" ∷ path.now ∷ key ∷ texts_of words.now
 run_words (run.Import path copies) = codes "import" ∷ path.now ∷ copies.now ∷ []
+run_words (run.Check copies) = codes "import" ∷ codes "--check" ∷ copies.now ∷ []
 run_words (run.Report path report) = codes "report" ∷ path.now ∷ report_words report
 run_words (run.Audit path) = codes "audit" ∷ path.now ∷ []
 run_words (run.Migrate path) = codes "migrate" ∷ path.now ∷ []
@@ -68,10 +69,12 @@ IsWorkers workers = (0 < workers) × (workers ≤ WORKERS)
 abbrev pub IsEach : ℕ → Type 0
 IsEach each = (0 < each) × (each ≤ MOST_CONNECTIONS)
 
--- Keys have their form, numbers are in their ranges, and a request has a word at least.
+-- Keys have their form, numbers are in their ranges, a request has a word at least, and no library's path is the
+-- word for a check.
 abbrev pub HasForms : Run → Type 0
 HasForms (run.File path key words) = (is_outside_key key ≡ true) × (0 < length words.now)
-HasForms (run.Import path copies) = Unit {0}
+HasForms (run.Import path copies) = path.now ≢ codes "--check"
+HasForms (run.Check copies) = Unit {0}
 HasForms (run.Report path report) = HasArgument report
 HasForms (run.Audit path) = Unit {0}
 HasForms (run.Migrate path) = Unit {0}

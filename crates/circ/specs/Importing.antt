@@ -52,10 +52,14 @@ abbrev pub row_lines : ℕ → List Reply → List ℕ
 row_lines n [] = []
 row_lines n (reply ∷ replies) = row_line n reply ++ row_lines (n + 1) replies
 
+-- The line of a bad row.
+abbrev pub bad_row_line : ℕ → List ℕ
+bad_row_line n = codes "row " ++ decimal n ++ codes " bad" ++ 10 ∷ []
+
 -- The line of a reading that didn't end with the last row.
 abbrev pub end_line : CopyEnd → List ℕ
 end_line Whole = []
-end_line (Bad n) = codes "row " ++ decimal n ++ codes " bad" ++ 10 ∷ []
+end_line (Bad n) = bad_row_line n
 end_line Read = codes "fault reading" ++ 10 ∷ []
 end_line Memory = fault_line (fault_number fault.Memory)
 

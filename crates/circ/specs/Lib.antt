@@ -3,6 +3,7 @@ pub mod Lines
 pub mod Saying
 pub mod Reporting
 pub mod Importing
+pub mod Checking
 pub mod Connections
 pub mod Serving
 pub mod Auditing

@@ -36,6 +36,10 @@ pub enum Run<'a> {
         path: &'a str,
         copies: &'a str,
     },
+    /// `import --check COPIES`: check a copies file, without a library.
+    Check {
+        copies: &'a str,
+    },
     /// `report FILE overdue B`, `report FILE till DAY`, `report FILE shelf B`: write a report on a
     /// library.
     Report {
@@ -78,7 +82,7 @@ impl<'a> Run<'a> {
             | Run::Audit { path }
             | Run::Migrate { path }
             | Run::Serve { path, .. } => Some(*path),
-            Run::Send { .. } => None,
+            Run::Check { .. } | Run::Send { .. } => None,
         }
     }
 
@@ -151,7 +155,22 @@ fn read_file<'a>(alloc: Global, words: &'a [String]) -> Result<Option<Run<'a>>, 
     }
 }
 
-/// Reads an import: exactly two paths, library and copies file.
+/// The word in place of a library's path if a copies file is only checked.
+const CHECK: &str = "--check";
+
+/// Returns the check of a copies file, if the path is the word for it, or an import into the library
+/// there.
+fn import_or_check<'a>(path: &'a str, copies: &'a str) -> Run<'a>
+    ensures { IsRun (codes "import" ∷ path.now ∷ copies.now ∷ []) result }
+{
+    if path == CHECK {
+        Run::Check { copies }
+    } else {
+        Run::Import { path, copies }
+    }
+}
+
+/// Reads an import or a check: exactly two words, the second the path of a copies file.
 fn read_import_run<'a>(words: &'a [String]) -> Option<Run<'a>>
     ensures { let asked = codes "import" ∷ texts_of words.now in
         MatchOption result (IsNoRun asked) (IsRun asked) }
@@ -159,10 +178,7 @@ fn read_import_run<'a>(words: &'a [String]) -> Option<Run<'a>>
     let [path, copies] = words else {
         return None;
     };
-    Some(Run::Import {
-        path: path.as_str(),
-        copies: copies.as_str(),
-    })
+    Some(import_or_check(path.as_str(), copies.as_str()))
 }
 
 /// Reads a report by name, with its day or branch.

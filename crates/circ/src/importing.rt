@@ -4,7 +4,7 @@ ghost use Rattle.front.specs.declared.copies.TheConstants.{MOST_ROWS};
 ghost use Rattle.std.specs.Prelude.{◌≡◌, ◌+◌, ◌<◌, ◌≤◌, ◌++◌, [], length};
 ghost use Rattle.front.specs.declared.copies.CopyEnd.TheVariants.{Read as NotRead};
 ghost use Rattle.desk.specs.Answering.{Handled};
-ghost use Rattle.circ.specs.Importing.{request_of, row_line, end_line, end_exit, counts_line};
+ghost use Rattle.circ.specs.Importing.{request_of, row_line, bad_row_line, end_line, end_exit, counts_line};
 ghost use Rattle.circ.specs.Importing.{import_lines, with_row, ImportsRow, ImportsRows, Imports};
 ghost use Rattle.terms.specs.Writing.{Writes};
 ghost use Rattle.terms.specs.Texts.{fault_number};
@@ -72,16 +72,23 @@ fn write_row<W: Write>(writer: &mut W, number: u32, reply: &Reply) -> Result<(),
     }
 }
 
+/// Writes the line of a bad row. Takes no memory.
+pub(crate) fn write_bad_row<W: Write>(writer: &mut W, number: u64) -> Result<(), WriteFault>
+    ensures { Writes (bad_row_line number) (W.contents writer.old) (W.contents writer.new) result }
+{
+    write_pieces(
+        writer,
+        &[b"row ", Buffer::new().format(number).as_bytes(), b" bad\n"],
+    )
+}
+
 /// Writes the line for how the reading ended, if it wasn't the end of the file. Takes no memory.
-fn write_end<W: Write>(writer: &mut W, end: CopyEnd) -> Result<(), WriteFault>
+pub(crate) fn write_end<W: Write>(writer: &mut W, end: CopyEnd) -> Result<(), WriteFault>
     ensures { Writes (end_line end) (W.contents writer.old) (W.contents writer.new) result }
 {
     match end {
         CopyEnd::Whole => write_bytes(writer, b""),
-        CopyEnd::Bad(number) => write_pieces(
-            writer,
-            &[b"row ", Buffer::new().format(number).as_bytes(), b" bad\n"],
-        ),
+        CopyEnd::Bad(number) => write_bad_row(writer, u64::from(number)),
         CopyEnd::Read => write_bytes(writer, b"fault reading\n"),
         CopyEnd::Memory => match tell_fault(writer, Fault::Memory) {
             Ok(_) => Ok(()),

@@ -3,6 +3,7 @@
 
 mod arguments;
 mod auditing;
+mod checking;
 mod connections;
 mod importing;
 mod lines;
@@ -16,6 +17,7 @@ mod writing;
 
 pub use arguments::{ArgumentForm, DeskKeys, Run, WrongArgument, read_run, wrong_argument};
 pub use auditing::audit;
+pub use checking::{check, unchecked};
 pub use connections::{Connections, work};
 pub use desk::Report;
 pub use hall::Watch;

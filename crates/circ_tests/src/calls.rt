@@ -63,6 +63,15 @@ pub fn import<S: Alter, R: Read + Drop, W: Write>(
     circ::import(desk, alloc, reader, writer)
 }
 
+/// Checks a copies file, and writes its lines.
+pub fn check<R: Read + Drop, W: Write>(
+    alloc: Global,
+    reader: R,
+    writer: &mut W,
+) -> Result<Exit, WriteFault> {
+    circ::check(alloc, reader, writer).1
+}
+
 /// A worker serves this many connections, and leaves.
 pub fn serve_many<J: Opening, C: Connections, R: Wait>(
     rt: &R,

@@ -1,8 +1,8 @@
 //! Copies files as the desk takes them in: whole, and by reads that fail at each byte.
 
-use crate::calls::import;
+use crate::calls::{check, import};
 use crate::cut_lines::BEES;
-use circ::Exit;
+use circ::{Exit, unchecked};
 use desk::Desk;
 use sqlite::{Alter, MemStore};
 use std::alloc::Global;
@@ -44,6 +44,54 @@ fn a_read_that_fails_ends_a_file(rt: HostRuntime) -> Result<(), Fail> {
     for size in 0..bytes.len() + 1 {
         tells_rows(&rt, alloc, &mut desk, &bytes[..size])?;
     }
+    Ok(())
+}
+
+/// A check writes these lines and ends so.
+fn checks(
+    rt: &impl Abort,
+    alloc: Global,
+    file: &'static [u8],
+    lines: &str,
+    end: Exit,
+) -> Result<(), Fail> {
+    let mut told: Vec<u8> = Vec::new(alloc);
+    let exit = check(alloc, file, &mut told)?;
+    assert!(rt; exit == end);
+    assert!(rt; told.as_slice() == lines.as_bytes(), "{lines}");
+    Ok(())
+}
+
+#[test]
+fn checks_a_copies_file(rt: HostRuntime) -> Result<(), Fail> {
+    let alloc = rt.alloc();
+    checks(&rt, alloc, BEES.as_bytes(), "good 3 bad 0\n", Exit::Done)?;
+    checks(
+        &rt,
+        alloc,
+        b"",
+        "row 0 bad\ngood 0 bad 1\n",
+        Exit::NotUnderstood,
+    )?;
+    checks(
+        &rt,
+        alloc,
+        b"copy,title\n50,500,Maps,1,1,1500,end\n51,500,Maps,1,1,end\n",
+        "row 0 bad\nrow 2 bad\ngood 1 bad 2\n",
+        Exit::NotUnderstood,
+    )
+}
+
+#[test]
+fn a_read_that_fails_ends_a_check(rt: HostRuntime) -> Result<(), Fail> {
+    let alloc = rt.alloc();
+    let mut told: Vec<u8> = Vec::new(alloc);
+    let ends = (
+        check(alloc, Drip::failing(BEES.as_bytes()), &mut told)?,
+        unchecked(&mut told)?,
+    );
+    assert!(rt; ends == (Exit::Faulted, Exit::Faulted));
+    assert!(rt; told.as_slice() == b"fault reading\ngood 3 bad 0\nfault reading\ngood 0 bad 0\n");
     Ok(())
 }
 
