@@ -1,5 +1,5 @@
 -- What each run does: which library it opens, what `circ` says of the work on it, and how it ends.
-use Rattle.std.specs.Prelude.{◌≡◌, ◌⊎◌, ℕ, List, [], ◌∷◌, Option, Result, Ok, Err, IfOk, IfSome}
+use Rattle.std.specs.Prelude.{◌≡◌, ◌⊎◌, ℕ, List, [], ◌∷◌, Option, None, Result, Ok, Err, IfOk, IfSome}
 use Rattle.std.specs.Borrow.{Bor}
 use Rattle.std.specs.Io.KnownBytes.{Keeps}
 use Rattle.std.specs.declared.net.tcp.TcpListener.{TcpListener}
@@ -11,6 +11,8 @@ use Rattle.terms.specs.declared.writing.WriteFault.{WriteFault}
 use Rattle.desk.specs.Running.{Begins}
 use Rattle.front.specs.Understood.{texts_of}
 use Rattle.front.specs.declared.copies.CopyEnd.TheVariants.{Read as NotRead}
+use Rattle.front.specs.declared.checking.CopyCheck.{CopyCheck}
+use Rattle.front.specs.declared.checking.CheckEnd.TheVariants.{Read as Unread}
 use Rattle.front.specs.declared.keys.KeysFault.{KeysFault}
 use Rattle.front.specs.declared.keys.KeysFault.TheVariants.{Memory}
 use Rattle.clerks.specs.Clerks.{sole_clerk}
@@ -20,6 +22,7 @@ use Rattle.circ.specs.declared.lines.Exit.TheVariants.{Faulted}
 use Rattle.circ.specs.Lines.{fault_line, no_network_line, no_keys_line, EndsWith}
 use Rattle.circ.specs.Saying.{SaysLine}
 use Rattle.circ.specs.Importing.{Imports, import_lines, end_line}
+use Rattle.circ.specs.Checking.{Checks, check_lines}
 use Rattle.circ.specs.Reporting.{TellsAnyReport}
 use Rattle.circ.specs.Auditing.{SaysAudit}
 use Rattle.circ.specs.Migrating.{SaysMigration}
@@ -68,6 +71,12 @@ module _ {S C : Type 0} (g : Ghosts S) (remaining : C → Option (List ℕ)) (ou
   ImportsFrom path old new before after result =
       ((file : C) × outside.copies path file × Imports (remaining file) g old new before after result)
       ⊎ (outside.no_copies path × (new ≡ old) × EndsWith Faulted (import_lines [] (end_line NotRead)) before after result)
+
+  -- The copies file at the path was checked; or none could be opened, and that is told.
+  abbrev pub ChecksFrom : List ℕ → Option (List ℕ) → Option (List ℕ) → Result Exit WriteFault → Type 0
+  ChecksFrom path before after result =
+      ((file : C) × (found : CopyCheck) × outside.copies path file × Checks (remaining file) found before after result)
+      ⊎ (outside.no_copies path × EndsWith Faulted (check_lines None [] 0 Unread) before after result)
 
   -- A listener had the port, and the web was served; or none could be had, and that is told.
   abbrev pub ServesAt : Web → ℕ → Doing S
@@ -126,6 +135,7 @@ module _ {S C : Type 0} (g : Ghosts S) (remaining : C → Option (List ℕ)) (ou
   abbrev pub Runs : Run → Option (List ℕ) → Option (List ℕ) → Result Exit WriteFault → Type 0
   Runs (run.File path key words) = WorksIn path.now Made (Desk (work.Request key words))
   Runs (run.Import path copies) = WorksIn path.now Made (Desk (work.Import copies))
+  Runs (run.Check copies) = ChecksFrom copies.now
   Runs (run.Report path report) = WorksIn path.now Refused (Desk (work.Report report))
   Runs (run.Audit path) = WorksIn path.now Refused (Desk work.Audit)
   Runs (run.Migrate path) = WorksIn path.now Refused (Migration path)

@@ -7,11 +7,11 @@ ghost use Rattle.circ_runs.specs.Hosting.{Exchanges, SendsTo, ReadsClerksAt};
 use crate::absent::Absent;
 use crate::calls::{FileTables, close_tables, create, open};
 use crate::files::{is_held, is_log_alone, is_new, may_be_library};
-use crate::notes::{Console, say_begun, say_new, say_unread_keys, say_unsafe_keys};
+use crate::notes::{Console, say_bad_rows, say_begun, say_new, say_unread_keys, say_unsafe_keys};
 use crate::surroundings::Surroundings;
 use circ::{Exit, WriteFault, no_network, send};
 use clerks::Clerks;
-use front::{KeysFault, keys_read_once, read_clerks};
+use front::{CopyCheck, KeysFault, keys_read_once, read_clerks};
 use sqlite::{Start, Wary};
 use std::alloc::Global;
 use std::fs::File;
@@ -218,6 +218,11 @@ impl<'a> Surroundings for Host<'a> {
     fn note(&self, path: &str, begun: &str) {
         // Ignored: a failed note doesn't stop the run.
         let _ = say_begun(self.rt, path, begun);
+    }
+
+    fn note_bad_rows(&self, found: &CopyCheck) {
+        // Ignored: a failed note changes nothing.
+        let _ = say_bad_rows(self.rt, found);
     }
 
     fn watcher(&self) -> Console<'a> {

@@ -2,12 +2,13 @@
 
 use crate::files::{are_keys_open, cause, is_database};
 use circ::{ArgumentForm, Exit, Run, Watch, wrong_argument};
-use front::KeysFault;
+use front::{BadRow, CopyCheck, KeysFault, check_copies, checks_agree};
 use itoa::Buffer;
 use messages::{
-    Handler, ToldLine, explain, explain_words, meaning, wanted, write_usage, write_usage_of,
-    write_wanted,
+    Handler, ToldLine, bad_row_in, explain, explain_words, meaning, wanted, write_bad_row,
+    write_bad_rows, write_lost_row, write_usage, write_usage_of, write_wanted,
 };
+use std::fs::File;
 use std::io::{IsTerminal, Write};
 use terms::{SCHEMA, ServiceFault, WriteFault, write_bytes, write_pieces};
 
@@ -20,6 +21,8 @@ pub enum Topic<'a> {
     Sent { words: &'a [String] },
     /// A copies file for a library.
     Copies { path: &'a str, copies: &'a str },
+    /// A copies file that is checked.
+    Checked { copies: &'a str },
     /// A library that is migrated to the newest schema.
     Migration { path: &'a str },
     /// Any other run on a library.
@@ -39,6 +42,7 @@ impl<'a> Topic<'a> {
                 path: *path,
                 copies: *copies,
             },
+            Run::Check { copies } => Topic::Checked { copies: *copies },
             Run::Migrate { path } => Topic::Migration { path: *path },
             Run::Report { path, .. } | Run::Audit { path } | Run::Serve { path, .. } => {
                 Topic::Library { path: *path }
@@ -53,7 +57,7 @@ impl<'a> Topic<'a> {
             | Topic::Copies { path, .. }
             | Topic::Migration { path }
             | Topic::Library { path } => Some(path),
-            Topic::Sent { .. } => None,
+            Topic::Sent { .. } | Topic::Checked { .. } => None,
         }
     }
 
@@ -108,7 +112,43 @@ fn say_swapped(rt: &HostRuntime, topic: Topic<'_>) -> Result<(), WriteFault> {
             copies,
             "this is a database, not a copies file: circ import LIBRARY COPIES",
         ),
+        Topic::Checked { copies } if is_database(rt, copies) => write_note(
+            &mut rt.stderr(),
+            copies,
+            "this is a database, not a copies file",
+        ),
         _ => Ok(()),
+    }
+}
+
+/// Says what is wrong with the bad rows of a copies file.
+pub fn say_bad_rows(rt: &HostRuntime, found: &CopyCheck) -> Result<(), WriteFault> {
+    write_bad_rows(&mut rt.stderr(), found)
+}
+
+/// Returns the first bad row that a check found.
+fn first_bad(found: &CopyCheck) -> Option<BadRow> {
+    match found.header {
+        Some(flaw) => Some(BadRow { number: 0, flaw }),
+        None => found.bad.as_slice().first().copied(),
+    }
+}
+
+/// Checks a copies file once more: its first bad row is the one at which its reading ended.
+fn bad_row_of(rt: &HostRuntime, copies: &str) -> Option<BadRow> {
+    checks_agree();
+    first_bad(&check_copies(rt.alloc(), File::open(rt, copies).ok()?))
+}
+
+/// Says what is wrong with the row at which an import ended.
+fn say_bad_row(rt: &HostRuntime, told: &ToldLine, topic: Topic<'_>) -> Result<(), WriteFault> {
+    let (Some(number), Topic::Copies { copies, .. }) = (bad_row_in(told), topic) else {
+        return Ok(());
+    };
+    let number = u64::from(number);
+    match bad_row_of(rt, copies) {
+        Some(row) if row.number == number => write_bad_row(&mut rt.stderr(), row),
+        _ => write_lost_row(&mut rt.stderr(), number),
     }
 }
 
@@ -120,6 +160,7 @@ pub fn say(
     exit: Exit,
 ) -> Result<(), WriteFault> {
     say_line(rt, told, topic)?;
+    say_bad_row(rt, told, topic)?;
     if exit == Exit::NotUnderstood {
         say_wrong_words(rt, topic)?;
     }

@@ -6,7 +6,7 @@ ghost use Rattle.front.specs.Understood.{texts_of};
 use crate::absent::Absent;
 use circ::{Connections, Exit, Outgoing, Port, Watch, WriteFault};
 use clerks::Clerks;
-use front::KeysFault;
+use front::{CopyCheck, KeysFault};
 use std::alloc::Global;
 use std::io::{Read, Write};
 use std::net::{TcpListener, TcpStream};
@@ -34,6 +34,9 @@ pub trait Surroundings {
 
     /// Tells a person that work on the library begins which may take long.
     fn note(&self, path: &str, begun: &str);
+
+    /// Tells a person what is wrong with the bad rows of a copies file.
+    fn note_bad_rows(&self, found: &CopyCheck);
 
     /// Returns what is told that a serving desk has closed.
     fn watcher(&self) -> Self::Watcher;

@@ -1,6 +1,6 @@
 //! From a run to its work: which library is opened, and what is done on it.
 
-ghost use Rattle.circ_runs.specs.Running.{ImportsFrom, ServesAt, DoesAtDesk, OpensDesk, Does, Leaves};
+ghost use Rattle.circ_runs.specs.Running.{ImportsFrom, ChecksFrom, ServesAt, DoesAtDesk, OpensDesk, Does, Leaves};
 ghost use Rattle.circ_runs.specs.Running.{WorksIn, WithClerks, Opens, SendsAs, ServesFor, Runs, Answers};
 ghost use Rattle.circ_runs.specs.Running.{keys_fault_line};
 ghost use Rattle.circ.specs.Lines.{EndsWith};
@@ -10,8 +10,8 @@ use crate::absent::Absent;
 use crate::surroundings::{Serving, Surroundings};
 use crate::work::{DeskWork, Work};
 use circ::{
-    DeskKeys, Exit, Port, Run, Web, WriteFault, audit, import, migrate, no_keys, no_network, one,
-    out_of_memory, report, serve, tell_fault, unreadable,
+    DeskKeys, Exit, Port, Run, Web, WriteFault, audit, check, import, migrate, no_keys, no_network,
+    one, out_of_memory, report, serve, tell_fault, unchecked, unreadable,
 };
 use clerks::Clerks;
 use desk::Desk;
@@ -43,6 +43,26 @@ fn import_file<S: Alter, M: Surroundings<Tables = Store<S>>, W: Write>(
     match machine.open_copies(copies) {
         Some(file) => import(desk, machine.alloc(), file, writer),
         None => unreadable(writer),
+    }
+}
+
+/// Checks a copies file and explains its bad rows, or writes the lines for one that can't be opened.
+fn check_file<S: Alter, M: Surroundings<Tables = Store<S>>, W: Write>(
+    machine: &M,
+    copies: &str,
+    writer: &mut W,
+) -> Result<Exit, WriteFault>
+    ensures { ChecksFrom S.Store M.Copies.Read.remaining M.outside
+        (⟦<Port as Serving>⟧.serves S S.Store) copies.now
+        (W.contents writer.old) (W.contents writer.new) result }
+{
+    match machine.open_copies(copies) {
+        Some(file) => {
+            let (found, told) = check(machine.alloc(), file, writer);
+            machine.note_bad_rows(&found);
+            told
+        }
+        None => unchecked(writer),
     }
 }
 
@@ -314,6 +334,7 @@ fn do_run<
         Run::Import { path, copies } => {
             (path, Absent::Made, Work::Desk(DeskWork::Import { copies }))
         }
+        Run::Check { copies } => return check_file(machine, copies, writer),
         Run::Report { path, report } => {
             (path, Absent::Refused, Work::Desk(DeskWork::Report(report)))
         }
