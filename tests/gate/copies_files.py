@@ -1,6 +1,6 @@
 #!/usr/bin/env python3
-"""Runs `./circ import` on copies files: good, refused and bad ones, ones with too many rows, and ones that can't be
-read.
+"""Runs `./circ import` and `./circ import --check` on copies files: good, refused and bad ones, ones with too many
+rows, and ones that can't be read.
 
 Expected lines and rows are those of docs/RULES.md, worked out by hand; those of the delivery come from `desk_rules`.
 """
@@ -13,7 +13,7 @@ import tempfile
 
 from room import TOP
 from lib.checking import check, part, run_script
-from lib.runs import GROUND, HEADER, kill_at_work, rows, rows_now, say, take_in, the_rows_are, timed, whole
+from lib.runs import GROUND, HEADER, kill_at_work, look_at, rows, rows_now, say, take_in, the_rows_are, timed, whole
 from reference.desk_rules import Library
 
 BEES = HEADER + """\
@@ -135,6 +135,74 @@ def bad_rows(folder):
         check(f"its title before {what}", rows(path, "SELECT * FROM titles WHERE title >= 500"), [(500, "Maps")])
 
 
+SEPARATOR = "1 field instead of 7: the separator must be a comma, not a semicolon or a tab"
+HEADER_CAUSE = "the header is not copy,title,text,kind,home,price,end"
+NUMBER = "a number up to 4294967295 without a leading zero"
+TEXT = "the text is not 1 to 120 bytes without control characters and without a space at either end: it has"
+
+# Bad rows, and what is wrong with each. The quote that is never closed comes last.
+CAUSES = [
+    (b"51,500,Maps,1,1500,end\n", "6 fields instead of 7"),
+    (b"51,500,Maps,1,1,1500,end,end\n", "8 fields instead of 7"),
+    (b"51\n", "1 field instead of 7"),
+    (b"51;500;Maps;1;1;1500;end\n", SEPARATOR),
+    (b"51\t500\tMaps\t1\t1\t1500\tend\n", SEPARATOR),
+    (b"51,500,Maps,1,1,1500,END\n", "the last field is not end: perhaps a quote is not closed"),
+    (b"5\xe4,500,Maps,1,1,1500,end\n", "the field copy is not UTF-8"),
+    (b"51,501,M\xe4rz,1,1,1500,end\n", "the field text is not UTF-8"),
+    (b"062,500,Maps,1,1,1500,end\n", f"the field copy is not {NUMBER}"),
+    (b"51,4294967296,Maps,1,1,1500,end\n", f"the field title is not {NUMBER}"),
+    (b"51,500,Maps,one,1,1500,end\n", f"the field kind is not {NUMBER}"),
+    (b"51,500,Maps,1, 1,1500,end\n", f"the field home is not {NUMBER}"),
+    (b"51,500,Maps,1,1,15.00,end\n", f"the field price is not {NUMBER}"),
+    (b"51,500,Maps,1,1,,end\n", f"the field price is not {NUMBER}"),
+    (b"51,501,,1,1,1500,end\n", f"{TEXT} 0 bytes"),
+    (b"51,501, ,1,1,1500,end\n", f"{TEXT} 1 byte"),
+    (b"51,501,Maps ,1,1,1500,end\n", f"{TEXT} 5 bytes"),
+    (b"51,501,Ma\tps,1,1,1500,end\n", f"{TEXT} 5 bytes"),
+    (b"51,501," + b"M" * 121 + b",1,1,1500,end\n", f"{TEXT} 121 bytes"),
+    (b'51,501,"Maps,1,1,1500,end\n', "3 fields instead of 7, with a line break in the last: perhaps a quote is not closed"),
+]
+
+
+def causes(folder):
+    """A check tells every bad row of a file, with what is wrong with it, and makes no library; an import tells what is
+    wrong with the row that ended it."""
+    copies, path = os.path.join(folder, "checked.csv"), os.path.join(folder, "unchecked.db")
+    say(path, GROUND)
+    before = os.listdir(folder)
+
+    def looked_at(bytes_, lines, said, status):
+        with open(copies, "wb") as file:
+            file.write(bytes_)
+        check(f"the check of {bytes_!r}", look_at(copies), (lines, "".join(f"circ: {it}\n" for it in said), status))
+
+    header = HEADER.encode()
+    for row, cause in CAUSES:
+        looked_at(header + GOOD + row, "row 2 bad\ngood 1 bad 1\n", [f"row 2: {cause}"], 4)
+        check(f"{row!r} is taken in", take_in(path, copies), ("row 1 ok\nrow 2 bad\naccepted 1 refused 0\n", 4))
+    bad = range(2, 2 * len(CAUSES) + 1, 2)
+    looked_at(header + b"".join(GOOD + row for row, _ in CAUSES), "".join(f"row {n} bad\n" for n in bad) + f"good {len(bad)} bad {len(bad)}\n",
+              [f"row {n}: {cause}" for n, (_, cause) in zip(bad, CAUSES)], 4)
+    looked_at(BEES.encode(), "good 3 bad 0\n", [], 0)
+    looked_at(b"\xef\xbb\xbf" + BEES.encode(), "good 3 bad 0\n", [], 0)
+    looked_at(header, "good 0 bad 0\n", [], 0)
+    looked_at(header + GOOD[:-1], "good 1 bad 0\n", [], 0)
+    # a file that was cut
+    looked_at(BEES[:BEES.index("ter Bees")].encode(), "row 3 bad\ngood 2 bad 1\n", ["row 3: 3 fields instead of 7"], 4)
+    # files without a header: the rows are looked at all the same
+    looked_at(b"", "row 0 bad\ngood 0 bad 1\n", [f"row 0: {HEADER_CAUSE}"], 4)
+    looked_at(GOOD * 2, "row 0 bad\ngood 1 bad 1\n", [f"row 0: {HEADER_CAUSE}"], 4)
+    looked_at(header.replace(b",", b";") + GOOD, "row 0 bad\ngood 1 bad 1\n", [f"row 0: {SEPARATOR}"], 4)
+    check("an unreadable header is taken in", take_in(path, copies), ("row 0 bad\naccepted 0 refused 0\n", 4))
+    unread = "fault reading\ngood 0 bad 0\n", "circ: the copies file is missing or can't be read\n", 3
+    check("no copies file", look_at(os.path.join(folder, "absent.csv")), unread)
+    check("a directory of copies", look_at(folder), unread)
+    check("a library's copies", look_at(path)[2], 4)
+    made = [name for name in os.listdir(folder) if name not in before and not name.startswith(("checked.csv", "unchecked.db"))]
+    check("no library is made", (made, os.path.exists("--check")), ([], False))
+
+
 def a_spreadsheets_files(folder):
     """The files that LibreOffice Calc wrote (tests/data), as they are, with a byte order mark, and with the ends of
     lines of another system."""
@@ -165,6 +233,7 @@ def a_row_too_many(folder):
     with open(copies, "ab") as file:
         file.write(GOOD)
     check("100,001 rows", take_in(path, copies), (lines + "row 100001 bad\naccepted 100000 refused 0\n", 4))
+    check("100,001 rows, checked", look_at(copies), ("row 100001 bad\ngood 100000 bad 1\n", "circ: row 100001: more than 100,000 rows\n", 4))
     check("one copy", rows(path, "SELECT COUNT(*) FROM copies WHERE copy >= 50"), [(1,)])
 
 
@@ -172,6 +241,7 @@ def main():
     with tempfile.TemporaryDirectory() as folder:
         part(copies_files, folder)
         part(bad_rows, folder)
+        part(causes, folder)
         part(a_spreadsheets_files, folder)
         part(a_row_too_many, folder)
         part(a_delivery, folder)

@@ -35,8 +35,7 @@ from lib.serving import DESK_KEY, Serving, everything
 from reference.desk_rules import CORRECTIONS, LABELS, QUESTIONS, SEARCHES, Library
 from reference.outer_forms import (
     HEADER, HEAD_BYTES, MARK, MOST_LEVELS, WORDS, Failed, answer_to, is_barcode, is_card_key, is_day, is_mask,
-    is_name, lines_of,
-    read_request,
+    is_name, lines_of, lines_of_check, read_request,
 )
 
 SEED, CASES = 28, 10_000
@@ -383,6 +382,13 @@ def question_of(request):
     return name if name in QUESTIONS else "none"
 
 
+def check_all_rows(what, file, copies):
+    """A copies file is checked too."""
+    words, (lines, status) = ["import", "--check", file], lines_of_check(copies)
+    run = subprocess.run([PROGRAM, *words], capture_output=True, timeout=60)
+    check(what, (run.stdout.decode(), run.stderr, run.returncode), (lines, message(words, lines), status))
+
+
 def take_in_all(cases, path, library, where, seen):
     """All copies files of a round."""
     for at in range(FILES):
@@ -391,6 +397,7 @@ def take_in_all(cases, path, library, where, seen):
             opened.write(copies)
         lines, status = lines_of(library, copies)
         run = subprocess.run([PROGRAM, "import", path, file], capture_output=True, timeout=60)
+        check_all_rows(f"{where}, the check of copies file {at}: {copies!r}", file, copies)
         check(f"{where}, copies file {at}: {copies!r}", (run.stdout.decode(), run.stderr, run.returncode), (lines, message(["import", path, file], lines), status))
         seen[f"files that end with status {status}"] += 1
 

@@ -23,7 +23,7 @@ from lib.messages import (
     of_run,
 )
 from lib.program import program
-from reference.outer_forms import WORDS, is_barcode, is_card_key, is_day, is_mask, is_name, is_number
+from reference.outer_forms import WORDS, is_barcode, is_card_key, is_day, is_mask, is_name, is_number, lines_of_check
 
 PROGRAM = program()
 
@@ -83,7 +83,7 @@ def words_of_commands(path):
 
 def words_of_runs(path):
     """Words that are no run."""
-    for words in ([], ["file", path, "k1"], ["import", path], ["migrate"], ["migrate", path, "again"], ["serve", path, "1", "1", "1"]):
+    for words in ([], ["file", path, "k1"], ["import", path], ["import", "--check"], ["import", "--check", path, path], ["migrate"], ["migrate", path, "again"], ["serve", path, "1", "1", "1"]):
         asks(words, NOT_UNDERSTOOD)
     for key in ("", "k 1", "k" * 41):
         asks(["file", path, key, "page", "1"], NOT_UNDERSTOOD)
@@ -109,6 +109,10 @@ def lines_of_runs(place, path):
         file.write("copy,title,text,kind,home,price,end\n50,500,Maps,1,1,1500,end\n51,500,Maps,1,1,1500,END\n")
     asks(["import", path, copies], "row 1 refused 10\nrow 2 bad\naccepted 0 refused 1\n")
     asks(["import", os.path.join(place, "imported.db"), copies], "row 1 refused 10\nrow 2 bad\naccepted 0 refused 1\n")
+    asks(["import", "--check", copies], "row 2 bad\ngood 1 bad 1\n")
+    with open(path, "rb") as file:
+        asks(["import", "--check", path], lines_of_check(file.read())[0])
+    asks(["import", "--check", os.path.join(place, "absent.csv")], "fault reading\ngood 0 bad 0\n")
     asks(["import", copies, path], "fault 91\n")
     asks(["import", os.path.join(place, "swapped.db"), path], "row 0 bad\naccepted 0 refused 0\n")
     asks(["send", "1", "deskkey00001", "k1", "page", "1"], "fault network\n")

@@ -11,7 +11,7 @@ import tempfile
 from contextlib import closing, contextmanager
 
 from reference.outer_forms import (
-    WORDS, is_barcode, is_card_key, is_day, is_key, is_mask, is_name, is_number, read_keys,
+    WORDS, bad_rows, is_barcode, is_card_key, is_day, is_key, is_mask, is_name, is_number, read_keys,
 )
 from room import TOP
 
@@ -38,7 +38,6 @@ SAYINGS = {
         "the row of this table with this number is missing, or there though the number was not given: restore a backup"
     ),
 }
-BAD = "the row is not copy,title,text,kind,home,price,end, or no row may follow"
 OLDER = "the library has an older schema: make a backup first, then run circ migrate FILE"
 LATER = "the library has a later schema: it needs a later version of this program"
 FOREIGN = "not a library: it has no table meta with one row that names its schema"
@@ -53,6 +52,7 @@ DISK = "the disk is full or failed"
 MADE = "there was no library; a new one was made"
 CLOSED = "circ: pages are still answered, and every other request gets fault 92; fix the cause and restart the program\n"
 SWAPPED = "this is a database, not a copies file: circ import LIBRARY COPIES"
+NO_COPIES = "this is a database, not a copies file"
 JOURNAL = "another program left a rollback journal beside the file: open it with sqlite3 first"
 UNWRITABLE = "no permission to write the file, its log or the folder: circ opens a library for writing even to read it; use a copy for that"
 READ_ONLY = "the file system is read-only: circ opens a library for writing even to read it; use a copy elsewhere for that"
@@ -62,7 +62,7 @@ NO_KEYS = "the file can't be read"
 OPEN_KEYS = "other users may read these keys: take that from them with chmod o-r"
 NOT_UNDERSTOOD = "words not understood\n"
 UNWRITTEN = b"circ: standard output can't be written\n"
-RUNS = ["file", "import", "report", "report", "report", "audit", "migrate", "serve", "send"]
+RUNS = ["file", "import", "import", "report", "report", "report", "audit", "migrate", "serve", "send"]
 
 
 def read(path):
@@ -218,7 +218,7 @@ def of_keys(path):
 
 def makes_library(words):
     """Whether a run that begins now makes a new library in its file."""
-    if not is_run(words) or words[0] not in ("file", "import", "serve") or is_log_alone(words[1]):
+    if not is_run(words) or words[0] not in ("file", "import", "serve") or is_check(words) or is_log_alone(words[1]):
         return False
     if keys_of(words) is not None and not of_keys(keys_of(words))[1]:
         return False
@@ -226,6 +226,21 @@ def makes_library(words):
         return os.path.getsize(words[1]) == 0
     except FileNotFoundError:
         return os.path.isdir(os.path.dirname(os.path.abspath(words[1])))
+
+
+def is_check(words):
+    """Whether a run only checks a copies file."""
+    return words[:2] == ["import", "--check"]
+
+
+def of_rows(words, out):
+    """What is said of the bad rows of a copies file: of all, or of the one that ended it."""
+    bad = [int(number) for number in re.findall(r"^row (\d+) bad$", out, re.M)]
+    if not bad:
+        return ""
+    with open(words[2], "rb") as file:
+        found = dict(bad_rows(file.read())[0])
+    return "".join(f"circ: row {number}: {found[number]}\n" for number in bad)
 
 
 def is_held(path):
@@ -306,14 +321,18 @@ def message(words, out, held=None, made=False, closed=None):
     line = ([it for it in out.split("\n")[:-1] if is_telling(it)] or [""])[-1]
     if line == "words not understood" or out == '{"status":400}\n':
         return (said + usage(words)).encode()
-    sayings = [BAD] if line.endswith(" bad") else [it for begin, it in SAYINGS.items() if line.startswith(begin)][:1]
+    sayings = [it for begin, it in SAYINGS.items() if line.startswith(begin)][:1]
     numbers = re.findall(r"\d+", line)
-    if sayings:
+    if words and words[0] == "import":
+        said += of_rows(words, out)
+    if line.endswith(" bad"):
+        pass
+    elif sayings:
         said += f"circ: {sayings[0]}\n"
     elif numbers:
         said += f"circ: {MEANINGS[int(numbers[-1])]}\n"
     if line in ("fault 91", "fault 93") and words[0] != "send":
         said += f"circ: {words[1]}: {cause(words[0], words[1], line, held)}\n"
     if words[0] == "import" and line and os.path.isfile(words[2]) and is_database(words[2]):
-        said += f"circ: {words[2]}: {SWAPPED}\n"
+        said += f"circ: {words[2]}: {NO_COPIES if is_check(words) else SWAPPED}\n"
     return said.encode()

@@ -180,6 +180,14 @@ def take_in(path, copies):
     return run.stdout.decode(), run.returncode
 
 
+def look_at(copies):
+    """What checking a copies file prints, what is said of it, and its status."""
+    words = ["import", "--check", copies]
+    run = subprocess.run([CIRC, *words], capture_output=True, timeout=LONGEST_RUN)
+    check("standard error of a check", run.stderr, message(words, run.stdout.decode()))
+    return run.stdout.decode(), run.stderr.decode(), run.returncode
+
+
 def examples(page):
     """The lines that a page of docs/ shows as typed, each with the lines that answer it, or that the file has."""
     with open(os.path.join(TOP, "docs", page), encoding="utf-8") as file:

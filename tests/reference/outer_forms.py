@@ -523,6 +523,72 @@ def read_copies(bytes_):
     return rows, None
 
 
+def decoded(field):
+    """The text of a field; None where it isn't UTF-8."""
+    try:
+        return field.decode()
+    except UnicodeDecodeError:
+        return None
+
+
+def counted(many, unit):
+    return f"{many} {unit}" if many == 1 else f"{many} {unit}s"
+
+
+def cause_of_count(fields):
+    """What is wrong with a record that hasn't seven fields."""
+    said = f"{counted(len(fields), 'field')} instead of 7"
+    if len(fields) == 1 and re.search(b"[;\t]", fields[0]):
+        return said + ": the separator must be a comma, not a semicolon or a tab"
+    if re.search(b"[\r\n]", fields[-1]):
+        return said + ", with a line break in the last: perhaps a quote is not closed"
+    return said
+
+
+def cause_of_row(fields):
+    """What is wrong with a row, as a person is told it; None where it is good."""
+    if len(fields) != len(HEADER):
+        return cause_of_count(fields)
+    if fields[6] != b"end":
+        return "the last field is not end: perhaps a quote is not closed"
+    for place in (0, 1, 3, 4, 5, 2):
+        name, text = HEADER[place].decode(), decoded(fields[place])
+        if text is None:
+            return f"the field {name} is not UTF-8"
+        if place != 2 and not is_number(text):
+            return f"the field {name} is not a number up to 4294967295 without a leading zero"
+        if place == 2 and not is_name(text):
+            return ("the text is not 1 to 120 bytes without control characters and without a space at either end: it has "
+                    + counted(len(fields[place]), "byte"))
+    return None
+
+
+def cause_of_header(fields):
+    """What is wrong with the first record, if there is any; None where it is the header."""
+    if fields == HEADER:
+        return None
+    cause = cause_of_count(fields) if fields else ""
+    return cause if "separator" in cause else "the header is not copy,title,text,kind,home,price,end"
+
+
+def bad_rows(bytes_):
+    """The numbers of all bad rows of a copies file, each with what is wrong with it, and how many are good. The header
+    is row 0."""
+    found = records(bytes_)
+    causes, good = [(0, cause_of_header(next(found, [])))], 0
+    for number, fields in enumerate(found, 1):
+        cause = cause_of_row(fields) if number <= MOST_ROWS else "more than 100,000 rows"
+        causes.append((number, cause))
+        good += cause is None
+    return [(number, cause) for number, cause in causes if cause is not None], good
+
+
+def lines_of_check(bytes_):
+    """What checking a copies file prints, and its status."""
+    bad, good = bad_rows(bytes_)
+    return "".join(f"row {number} bad\n" for number, _ in bad) + f"good {good} bad {len(bad)}\n", 4 if bad else 0
+
+
 def lines_of(library, bytes_):
     """What taking in a copies file prints, and its status. Its rows are handled."""
     rows, bad = read_copies(bytes_)
