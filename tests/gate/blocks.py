@@ -220,7 +220,7 @@ def kept(page, typing, installs, upgrade, *others):
     typing.backup = typing.types(page.block("circ-backup /var/lib"), made).strip()
     typing.is_up()
     opens = page.block("sqlite3 'file:")
-    for words in ("reply LIKE 'loan 7", "place-hold", "CASE sort"):
+    for words in ("reply LIKE 'loan 7", "place-hold", "CASE sort", "FROM loans3 GROUP BY"):
         typing.types(opens, at_prompt=page.block(words))
     typing.sends("kind 2 1 1 100")
     at_home(typing)

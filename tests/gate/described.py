@@ -1,6 +1,6 @@
 #!/usr/bin/env python3
-"""What programs are told of the desk, compared with the desk: docs/replies.json with each answer of the stories, and
-docs/openapi.yaml with what the program that serves answers.
+"""What programs are told of the desk, compared with the desk: docs/replies.json with each answer of the stories,
+docs/openapi.yaml with what the program that serves answers, and docs/schema.sql with the tables of a new library.
 
     tests/gate/described.py
 
@@ -10,8 +10,10 @@ each status that is described, and each answer has the form that is described.
 
 import json
 import re
+import sqlite3
 import subprocess
 import tempfile
+from contextlib import closing
 
 import yaml
 
@@ -190,8 +192,28 @@ def is_new():
     check("docs/replies.json", (told.returncode, told.stderr), (0, ""))
 
 
+def tables():
+    """The tables and indexes that are described are those of a new library, in their order, and each column that may be
+    NULL says when it is, but for those of the tables that are empty."""
+    text = read("docs/schema.sql")
+    statements = [" ".join(it.split()) for it in re.sub("--.*", "", text).split(";")]
+    wanted = [it.replace("( ", "(").replace(" )", ")") for it in statements if it.strip()]
+    with tempfile.TemporaryDirectory() as folder:
+        path = a_library(folder, "tables.db")
+        with closing(sqlite3.connect(path)) as db:
+            found = [text for (text,) in db.execute("SELECT sql FROM sqlite_schema WHERE sql IS NOT NULL ORDER BY rowid")]
+            empty = {name for (name,) in db.execute("SELECT name FROM sqlite_schema WHERE type = 'table'") if name in ("rules", "loans", "holds")}
+    check("docs/schema.sql", wanted, found)
+    check("tables that are described as empty", set(re.findall(r"-- [^\n]* Empty: [^\n]*\nCREATE TABLE (\w+)", text)), empty)
+    for name, columns in re.findall(r"CREATE TABLE (\w+) \(\n(.*?)\n\) STRICT", text, flags=re.S):
+        may_be_null = [line for line in columns.split("\n") if "NOT NULL" not in line and "KEY" not in line and "NULL" not in line.partition("--")[2]]
+        if name not in empty:
+            check(f"columns of {name} that may be NULL and don't say when", may_be_null, [])
+
+
 def main():
     part(is_new)
+    part(tables)
     part(stories)
     part(served)
 

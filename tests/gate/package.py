@@ -38,6 +38,7 @@ PLAIN = {
     "usr/share/circ/circ_tool.py": "tools/circ_tool.py",
     "usr/share/doc/circ/openapi.yaml": "docs/openapi.yaml",
     "usr/share/doc/circ/replies.json": "docs/replies.json",
+    "usr/share/doc/circ/schema.sql": "docs/schema.sql",
     "usr/share/lintian/overrides/circ": "tools/deb/lintian-overrides",
     **{f"usr/share/circ/pages/{name}": f"pages/{name}" for name in sorted(os.listdir(os.path.join(TOP, "pages")))},
 }
