@@ -153,10 +153,10 @@ def refused_rows(folder):
 """)
     told = """\
 row 4 refused 17: unknown kind of patron (patron-53)
-row 6 refused 21: a number is out of its limits, or 400 days are closed singly (patron-0)
-row 7 refused 21: a number is out of its limits, or 400 days are closed singly (patron-10000000)
-row 8 refused 80: the key was used for another request (patron-51)
-row 9 refused 20: there already, with other content (patron-1)
+row 6 refused 21: a number is out of its limits, or the branch has 400 single closed days (patron-0)
+row 7 refused 21: a number is out of its limits, or the branch has 400 single closed days (patron-10000000)
+row 8 refused 80: the key was already used for another request (patron-51)
+row 9 refused 20: already exists with different details (patron-1)
 accepted 4 refused 5
 """
     rest = """\
@@ -182,7 +182,7 @@ accepted 4 refused 5
             rest = rest.replace(wrong, right)
         mended = put(folder, "mended.csv", "\ufeff" + HEADER + rest)
         check("a mended file", enrolled(port, DESK_KEY, mended, again),
-              ("row 5 refused 20: there already, with other content (patron-1)\naccepted 4 refused 1\n", "", 2))
+              ("row 5 refused 20: already exists with different details (patron-1)\naccepted 4 refused 1\n", "", 2))
         check("what is left", open(again, "rb").read(), ("\ufeff" + HEADER + "1,1,cardkey00001,Another Ann\n").encode())
     check("the patrons after it", patrons(path), [
         *PATRONS, (53, 1, "cardkey00053", "Dunn, Cy"), (54, 1, "cardkey00054", "Eve Fox"), (55, 1, "cardkey00055", "Guy Hay"),
@@ -283,7 +283,7 @@ def bad_lists(folder):
         check("no list", enrolled(port, DESK_KEY, absent, refused), ("", said(f"{absent} can't be read: {none}"), 3))
         check("a folder for a list", enrolled(port, DESK_KEY, folder, refused), ("", said(f"{folder} can't be read: Is a directory"), 3))
         check("no folder for the refused rows", enrolled(port, DESK_KEY, listed, absent), ("", said(f"{absent} can't be written: {none}"), 3))
-        wrong = ("accepted 0 refused 0\n", said("refused 81: wrong key, or not allowed to this caller"), 2)
+        wrong = ("accepted 0 refused 0\n", said("refused 81: wrong key, or not allowed for this caller"), 2)
         check("another desk's key", enrolled(port, WRONG_KEY, listed, refused), wrong)
         check("a key that is none", enrolled(port, "short", listed, refused), ("", said("the desk's key is not 8 to 32 ASCII letters and digits"), 4))
         for none in ("0", "65536", "x", "-1"):
@@ -309,7 +309,7 @@ def by_clerks(folder):
     clerk whom the desk doesn't know, enrol nobody."""
     path, listed, refused = a_library(folder, "clerks.db"), put(folder, "clerks.csv", TOWN), os.path.join(folder, "of_clerks.csv")
     keys = lambda text: f"@{put(folder, 'clerks.keys', text)}"
-    wrong = ("accepted 0 refused 0\n", said("refused 81: wrong key, or not allowed to this caller"), 2)
+    wrong = ("accepted 0 refused 0\n", said("refused 81: wrong key, or not allowed for this caller"), 2)
     with a_desk(path, f"@{put(folder, 'desk.keys', ANN + BO + KIOSK)}") as (_, port):
         for text in BAD_KEYS:
             word = keys(text)

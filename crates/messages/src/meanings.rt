@@ -46,11 +46,11 @@ const MEANINGS: [Explanation; 42] = [
     },
     Explanation {
         number: 20,
-        text: "there already, with other content",
+        text: "already exists with different details",
     },
     Explanation {
         number: 21,
-        text: "a number is out of its limits, or 400 days are closed singly",
+        text: "a number is out of its limits, or the branch has 400 single closed days",
     },
     Explanation {
         number: 22,
@@ -58,15 +58,15 @@ const MEANINGS: [Explanation; 42] = [
     },
     Explanation {
         number: 23,
-        text: "the day is not after today, or out of range",
+        text: "the day is not after today, or is out of range",
     },
     Explanation {
         number: 24,
-        text: "the day is closed singly already",
+        text: "the day is already a single closed day",
     },
     Explanation {
         number: 25,
-        text: "the day is not closed singly",
+        text: "the day is not a single closed day",
     },
     Explanation {
         number: 26,
@@ -98,15 +98,15 @@ const MEANINGS: [Explanation; 42] = [
     },
     Explanation {
         number: 36,
-        text: "another patron stands in line",
+        text: "another patron is waiting for the title",
     },
     Explanation {
         number: 37,
-        text: "the patron has as many loans as the kind may have",
+        text: "the patron has reached the loan limit",
     },
     Explanation {
         number: 38,
-        text: "the patron owes more than the kind may owe",
+        text: "the patron owes more than the limit allows",
     },
     Explanation {
         number: 39,
@@ -126,11 +126,11 @@ const MEANINGS: [Explanation; 42] = [
     },
     Explanation {
         number: 50,
-        text: "the patron has an active hold of the title",
+        text: "the patron already has a hold on the title",
     },
     Explanation {
         number: 51,
-        text: "the patron has as many holds as the kind may have",
+        text: "the patron has reached the hold limit",
     },
     Explanation {
         number: 52,
@@ -138,35 +138,35 @@ const MEANINGS: [Explanation; 42] = [
     },
     Explanation {
         number: 53,
-        text: "the hold is not in the state that is needed",
+        text: "the hold is not in the state that the command needs",
     },
     Explanation {
         number: 54,
-        text: "the limit of the hold has not passed",
+        text: "the shelf limit of the hold has not passed",
     },
     Explanation {
         number: 60,
-        text: "the amount is zero or above what is owed",
+        text: "the amount is zero or more than is owed",
     },
     Explanation {
         number: 70,
-        text: "the numbers of loans, holds or lines are used up",
+        text: "no loan, hold or line numbers are left",
     },
     Explanation {
         number: 80,
-        text: "the key was used for another request",
+        text: "the key was already used for another request",
     },
     Explanation {
         number: 81,
-        text: "wrong key, or not allowed to this caller",
+        text: "wrong key, or not allowed for this caller",
     },
     Explanation {
         number: 90,
-        text: "no memory was left",
+        text: "out of memory",
     },
     Explanation {
         number: 91,
-        text: "the database refused a call: another process has the file, it can't be written, or \
+        text: "the database failed: another process has the file open, it can't be written, or \
                the disk is full",
     },
     Explanation {
