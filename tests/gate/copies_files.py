@@ -161,7 +161,8 @@ CAUSES = [
     (b"51,501,Maps ,1,1,1500,end\n", f"{TEXT} 5 bytes"),
     (b"51,501,Ma\tps,1,1,1500,end\n", f"{TEXT} 5 bytes"),
     (b"51,501," + b"M" * 121 + b",1,1,1500,end\n", f"{TEXT} 121 bytes"),
-    (b'51,501,"Maps,1,1,1500,end\n', "3 fields instead of 7, with a line break in the last: perhaps a quote is not closed"),
+    (b'51,501,"Maps,1,1,1500,end\n',
+     "3 fields instead of 7, with a line break in the last: perhaps a quote is not closed"),
 ]
 
 
@@ -182,7 +183,8 @@ def causes(folder):
         looked_at(header + GOOD + row, "row 2 bad\ngood 1 bad 1\n", [f"row 2: {cause}"], 4)
         check(f"{row!r} is taken in", take_in(path, copies), ("row 1 ok\nrow 2 bad\naccepted 1 refused 0\n", 4))
     bad = range(2, 2 * len(CAUSES) + 1, 2)
-    looked_at(header + b"".join(GOOD + row for row, _ in CAUSES), "".join(f"row {n} bad\n" for n in bad) + f"good {len(bad)} bad {len(bad)}\n",
+    lines = "".join(f"row {n} bad\n" for n in bad)
+    looked_at(header + b"".join(GOOD + row for row, _ in CAUSES), f"{lines}good {len(bad)} bad {len(bad)}\n",
               [f"row {n}: {cause}" for n, (_, cause) in zip(bad, CAUSES)], 4)
     looked_at(BEES.encode(), "good 3 bad 0\n", [], 0)
     looked_at(b"\xef\xbb\xbf" + BEES.encode(), "good 3 bad 0\n", [], 0)
@@ -233,7 +235,8 @@ def a_row_too_many(folder):
     with open(copies, "ab") as file:
         file.write(GOOD)
     check("100,001 rows", take_in(path, copies), (lines + "row 100001 bad\naccepted 100000 refused 0\n", 4))
-    check("100,001 rows, checked", look_at(copies), ("row 100001 bad\ngood 100000 bad 1\n", "circ: row 100001: more than 100,000 rows\n", 4))
+    wanted = ("row 100001 bad\ngood 100000 bad 1\n", "circ: row 100001: more than 100,000 rows\n", 4)
+    check("100,001 rows, checked", look_at(copies), wanted)
     check("one copy", rows(path, "SELECT COUNT(*) FROM copies WHERE copy >= 50"), [(1,)])
 
 

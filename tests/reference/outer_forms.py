@@ -558,8 +558,8 @@ def cause_of_row(fields):
         if place != 2 and not is_number(text):
             return f"the field {name} is not a number up to 4294967295 without a leading zero"
         if place == 2 and not is_name(text):
-            return ("the text is not 1 to 120 bytes without control characters and without a space at either end: it has "
-                    + counted(len(fields[place]), "byte"))
+            return ("the text is not 1 to 120 bytes without control characters and without a space at either end: "
+                    f"it has {counted(len(fields[place]), 'byte')}")
     return None
 
 
