@@ -17,6 +17,8 @@ from room import TOP
 from lib.checking import check, part, run_script
 
 SHIPPED = os.path.join("bin", "circ-x86_64-linux")
+TOOLS = ("backup", "copies", "create", "day", "enrol", "export", "forget", "label", "move-in", "restore", "sip2", "tell",
+         "watch")
 FIRST = ["file", "town.db", "g1", "begin-day", "2026-03-02"]
 MADE = "circ: town.db: there was no library; a new one was made\n"
 
@@ -57,6 +59,17 @@ def at_once(place):
     check("a build without the toolchain", told(run(os.path.join(place, "build"), env=path_with(place))), (1, "", "build: the Rattle toolchain is missing: there is no command rt on the path\n"))
     for words in (["now"], ["--write", "now"]):
         check(f"build {words}", told(run(os.path.join(place, "build"), *words)), (4, "", "usage: ./build [--write]\n"))
+
+
+def the_tools(place):
+    """Each tool of a checkout runs the checkout's program, where none is installed."""
+    wanted = told(run(os.path.join(place, "circ"), "--version", cwd=place, env=path_with(place)))
+    shutil.copytree(os.path.join(TOP, "tools"), os.path.join(place, "tools"), dirs_exist_ok=True)
+    names = [it for it in TOOLS if os.path.isfile(os.path.join(place, "tools", it))]
+    check("the tools", sorted(names), sorted(TOOLS))
+    for name in names:
+        found = told(run(os.path.join(place, "tools", name), "--version", cwd=place, env=path_with(place)))
+        check(f"tools/{name} --version", found, wanted)
 
 
 def one_that_is_built(place):
@@ -119,6 +132,7 @@ def main():
     with tempfile.TemporaryDirectory() as place:
         fresh(place)
         part(at_once, place)
+        part(the_tools, place)
         part(one_that_is_built, place)
         part(alone, place)
         part(refused, place)
