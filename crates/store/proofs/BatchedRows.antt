@@ -13,7 +13,7 @@ use Rattle.store.specs.Batches.{AreRowsAfter, AreNumbered}
 
 -- ---- rows in order
 
-rises_joined : {R : Type 0} (number_of : R → ℕ) (rows more : List R) → Rise number_of rows → Rise number_of more
+pub rises_joined : {R : Type 0} (number_of : R → ℕ) (rows more : List R) → Rise number_of rows → Rise number_of more
     → ((r s : R) → Has rows r → Has more s → number_of r < number_of s) → Rise number_of (rows ++ more)
 rises_joined number_of [] more rise next less = next
 rises_joined number_of (r ∷ rows) more rise next less = (above, rises_joined number_of rows more rise.1 next (λ q s there. less q s (inr there)))

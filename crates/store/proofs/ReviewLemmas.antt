@@ -1,5 +1,5 @@
 -- Successive tables, each read to its end.
-use Rattle.std.proofs.Common.{◌≡◌, ◌<◌, ◌-◌, List, length, Some, Ok, Err, Result, IfOk, IfErr, refl}
+use Rattle.std.proofs.Common.{◌≡◌, ◌<◌, ◌-◌, List, [], length, Some, Ok, Err, Result, IfOk, IfErr, refl, sym, subst}
 use Rattle.std.specs.Prelude.{slice_get}
 use Rattle.std.specs.Result.{IsErr, IsErrAnd}
 use Rattle.std.proofs.lemmas.List.Elements.{All-contains}
@@ -8,15 +8,16 @@ use Rattle.sqlite.specs.Order.{Row}
 use Rattle.sqlite.specs.Store.{Ghosts}
 use Rattle.sqlite_rules.proofs.ListLemmas.{contains_had}
 use Rattle.sqlite_rules.proofs.ProbeLemmas.{has_mapped}
-use Rattle.sql_maps.specs.Maps.{Maps, ListedBy, PairBelow}
+use Rattle.sqlite.specs.State.{HasCleanDisk}
+use Rattle.sql_maps.specs.Maps.{Maps, Holds, ListedBy, PairBelow}
 use Rattle.sql_maps.specs.Batches.{FirstRowsBy}
 use Rattle.circ_tables.specs.Encoding.{AreEncoded}
 use Rattle.circ_tables.specs.Reading.{Table, Views, Lists, GetsMeta}
-use Rattle.circ_tables.specs.Cells.{owner_number, meta_cells, kept_cells}
+use Rattle.circ_tables.specs.Cells.{owner_number, meta_cells}
 use Rattle.circ_tables.specs.Kept.{kept}
 use Rattle.circ_tables.specs.Selections.{is_any, is_after, is_kept_after}
 use Rattle.circ_tables.specs.declared.by_number.TheConstants.{BATCH_ROWS}
-use Rattle.circ_tables.specs.Shape.{meta_place}
+use Rattle.circ_tables.specs.Shape.{schema, meta_place}
 use Rattle.terms.specs.Limits.{IsMeta}
 use Rattle.terms.specs.Orders.{IsOrdered}
 use Rattle.terms.specs.Pictures.{Picture}
@@ -25,8 +26,10 @@ use Rattle.terms.specs.declared.fault.Fault.TheVariants.{Database, Stored}
 use Rattle.terms.specs.declared.row.KeptRow.{KeptRow}
 use Rattle.terms.specs.declared.row.MetaRow.{MetaRow}
 use Rattle.store.specs.Legal.{HasLegal, HasLegalTables, Reviews, OverMaps, IsKeptBatch, AnswersLegal}
-use Rattle.store.specs.Batches.{IsPassedOver}
-use Rattle.store.proofs.KeptOfAnyTables.{AreKeptMet, first_met, more_kept_met, batch_of_caller, batch_past_caller}
+use Rattle.store.specs.Lists.{AreKeptByCaller}
+use Rattle.store.specs.Batches.{IsPassedOver, with_callers}
+use Rattle.store.proofs.CallerLemmas.{none_taken}
+use Rattle.store.proofs.KeptOfAnyTables.{AreKeptMet, first_met, more_kept_met, kept_legal, kept_taken, batch_of_caller, batch_past_caller}
 use Rattle.store.proofs.BatchLemmas.{passed_over}
 use Rattle.store.proofs.ReadLemmas.{held_still, read_fails}
 use Rattle.store.proofs.ViewLemmas.{fails, taken}
@@ -120,7 +123,7 @@ lone_met {r = r} is = record {
 -- the caller has more that is kept
 pub more_of_caller : {S L : Type 0} {items : L → List KeptRow} {g : Ghosts S} {l : L} {a b : Held S} (last : KeptRow) → 0 < length (items l)
     → Lists kept items (λ m. FirstRowsBy PairBelow BATCH_ROWS m (is_kept_after (owner_number last.caller) last.key)) g a b (Ok l)
-    → OverMaps (λ batch. IsKeptBatch (PairBelow (kept_cells last)) (items batch)) g a b (Ok l)
+    → OverMaps (λ batch. IsKeptBatch last (items batch)) g a b (Ok l)
 more_of_caller {items = items} {l = l} last some is =
     λ clean maps holds. batch_of_caller _ maps holds last (items l) is.limits (is.lists clean maps holds).0 some
 
@@ -128,7 +131,7 @@ more_of_caller {items = items} {l = l} last some is =
 pub past_caller : {S L : Type 0} {items : L → List KeptRow} {g : Ghosts S} {l : L} {r : Result L Fault} {a b c : Held S} (last : KeptRow) → length (items l) ≡ 0
     → Lists kept items (λ m. FirstRowsBy PairBelow BATCH_ROWS m (is_kept_after (owner_number last.caller) last.key)) g a b (Ok l)
     → Lists kept items (λ m. FirstRowsBy PairBelow BATCH_ROWS m (is_after (owner_number last.caller))) g b c r
-    → OverMaps (λ batch. IsKeptBatch (PairBelow (kept_cells last)) (items batch)) g a c r
+    → OverMaps (λ batch. IsKeptBatch last (items batch)) g a c r
 past_caller {items = items} {g = g} {l = l} {r = r} {a = a} {b = b} last none one two = λ clean.
     let before = two.read.clean clean in
     if_both r (λ past got fine maps holds.
@@ -137,28 +140,45 @@ past_caller {items = items} {g = g} {l = l} {r = r} {a = a} {b = b} last none on
     (two.lists clean) two.limits
 
 -- the first batch
-pub begun : {S L : Type 0} {items : L → List KeptRow} {g : Ghosts S} {l : L} {a b : Held S}
+pub begun : {S L : Type 0} {items : L → List KeptRow} {g : Ghosts S} {l : L} {a b : Held S} (rows : List KeptRow) → rows ≡ []
     → Lists kept items (λ m. FirstRowsBy PairBelow BATCH_ROWS m is_any) g a b (Ok l)
-    → Reviews {A = Unit {0}} IsPassedOver (AreKeptMet (items l)) g a b (Ok tt)
-begun {items = items} {l = l} is =
+    → Reviews {A = Unit {0}} IsPassedOver (AreKeptMet (with_callers rows (items l)) (items l)) g a b (Ok tt)
+begun {items = items} {l = l} rows none is =
     record {
       view = views.gives (passed_over is) (λ P all. tt);
-      met = λ clean maps holds. first_met maps (items l) is.limits (is.lists clean maps holds).0;
+      met = λ clean maps holds. subst (λ (taken : List KeptRow). AreKeptMet (with_callers taken (items l)) (items l) maps) (sym none)
+          (first_met maps (items l) is.limits (is.lists clean maps holds).0);
     }
 
 -- one batch more
-pub gone_on : {S L : Type 0} (items : L → List KeptRow) {g : Ghosts S} {l : L} {a b c : Held S} (batch : List KeptRow) (last : KeptRow)
-    → slice_get batch (length batch - 1) ≡ Some last
-    → Reviews {A = Unit {0}} IsPassedOver (AreKeptMet batch) g a b (Ok tt) → Views IsPassedOver g b c (Ok l)
-    → OverMaps (λ next. IsKeptBatch (PairBelow (kept_cells last)) (items next)) g b c (Ok l)
-    → Reviews {A = Unit {0}} IsPassedOver (AreKeptMet (items l)) g a c (Ok tt)
-gone_on items {g = g} {l = l} {a = a} {b = b} batch last end so_far seen is = record {
+pub gone_on : {S L : Type 0} (items : L → List KeptRow) {g : Ghosts S} {l : L} {a b c : Held S} (rows batch more : List KeptRow) (last : KeptRow)
+    → slice_get batch (length batch - 1) ≡ Some last → more ≡ with_callers rows batch
+    → Reviews {A = Unit {0}} IsPassedOver (AreKeptMet (with_callers rows batch) batch) g a b (Ok tt) → Views IsPassedOver g b c (Ok l)
+    → OverMaps (λ next. IsKeptBatch last (items next)) g b c (Ok l)
+    → Reviews {A = Unit {0}} IsPassedOver (AreKeptMet (with_callers more (items l)) (items l)) g a c (Ok tt)
+gone_on items {g = g} {l = l} {a = a} {b = b} rows batch more last end is so_far seen next = record {
   view = views.gives (views.◌⨾◌ so_far.view seen) (λ P all. tt);
   met = λ clean maps holds.
       let before = seen.read.clean clean in
-      more_kept_met maps batch (items l) last end (so_far.met before maps holds)
-      (is clean maps (held_still (state g a) (state g b) maps (so_far.view.read.same refl before maps holds) holds));
+      subst (λ (taken : List KeptRow). AreKeptMet (with_callers taken (items l)) (items l) maps) (sym is)
+      (more_kept_met maps (with_callers rows batch) batch (items l) last end (so_far.met before maps holds)
+      (next clean maps (held_still (state g a) (state g b) maps (so_far.view.read.same refl before maps holds) holds)));
 }
+
+-- nothing is left
+pub all_gone : {S : Type 0} {g : Ghosts S} {a b : Held S} (rows batch : List KeptRow) → length batch ≡ 0
+    → Reviews {A = Unit {0}} IsPassedOver (AreKeptMet (with_callers rows batch) batch) g a b (Ok tt)
+    → Reviews {A = Unit {0}} (λ P _. AreKeptByCaller P rows) (HasLegal kept) g a b (Ok tt)
+all_gone {g = g} {a = a} {b = b} rows batch none so_far = record {
+  view = record {
+    read = so_far.view.read;
+    shown = λ clean P shown legal. kept_taken shown.maps P shown.encodes legal rows batch none (taken clean shown.maps shown.holds);
+  };
+  met = λ clean maps holds. kept_legal maps rows batch none (taken clean maps holds);
+}
+  where
+    taken : HasCleanDisk (state g b) → (maps : Maps) → Holds schema (state g a).now maps → AreKeptMet rows batch maps
+    taken clean maps holds = subst (λ (taken : List KeptRow). AreKeptMet taken batch maps) (none_taken rows batch none) (so_far.met clean maps holds)
 
 -- given up: the database is at fault
 pub given_up : {S A B : Type 0} {g : Ghosts S} {Is : Picture → A → Type 0} {Met : Maps → Type 0} {Wanted : Picture → B → Type 0}

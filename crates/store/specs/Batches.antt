@@ -1,10 +1,14 @@
 -- Batches of the rows of a table.
-use Rattle.std.specs.Prelude.{◌≡◌, ◌⊎◌, ◌<◌, ◌≤◌, ℕ, List, length, Option, Some, None}
+use Rattle.std.specs.Prelude.{◌≡◌, ◌⊎◌, ◌<◌, ◌≤◌, ◌==◌, ◌-◌, ℕ, Bool, false, if◌then◌else◌, List, [], ◌∷◌, ◌++◌, length, slice_get}
+use Rattle.std.specs.Prelude.{Option, Some, None}
 use Rattle.std.specs.List.{Contains}
 use Rattle.circ_tables.specs.declared.by_number.TheConstants.{BATCH_ROWS}
 use Rattle.circ_tables.specs.ClosedDays.{closed_days}
 use Rattle.circ_core.specs.Views.{IsLoanOf, IsHoldOf}
+use Rattle.terms.specs.Callers.{owner_number}
+use Rattle.terms.specs.declared.command.Owner.{Owner}
 use Rattle.terms.specs.declared.row.ClosedDayRow.{ClosedDayRow}
+use Rattle.terms.specs.declared.row.KeptRow.{KeptRow}
 use Rattle.terms.specs.declared.row.CopyRow.{CopyRow}
 use Rattle.terms.specs.declared.row.Condition.TheVariants.{Present, Missing}
 use Rattle.terms.specs.declared.row.LoanRow.{LoanRow}
@@ -96,6 +100,24 @@ AreClosedDaysAfter P branch after = AreRowsAfter (λ day. closed_days.rows P (br
 -- Each row of a table stands under its own number; numbers begin at 1.
 abbrev pub AreNumbered : {R : Type 0} → (ℕ → Option R) → (R → ℕ) → Type 0
 AreNumbered {R} t number_of = (n : ℕ) (r : R) → t n ≡ Some r → (number_of r ≡ n) × (1 ≤ n)
+
+-- The row is of this caller.
+abbrev pub is_of_caller : Owner → Option KeptRow → Bool
+is_of_caller o (Some r) = owner_number r.caller == owner_number o
+is_of_caller o None = false
+
+-- The last row is of this caller.
+abbrev pub ends_with_caller : List KeptRow → Owner → Bool
+ends_with_caller rows o = is_of_caller o (slice_get rows (length rows - 1))
+
+-- The rows with one more, unless the last one is of its caller.
+abbrev pub with_caller : List KeptRow → KeptRow → List KeptRow
+with_caller rows r = if ends_with_caller rows r.caller then rows else rows ++ r ∷ []
+
+-- The same for one row after another.
+abbrev pub with_callers : List KeptRow → List KeptRow → List KeptRow
+with_callers rows [] = rows
+with_callers rows (r ∷ more) = with_callers (with_caller rows r) more
 
 -- What was read can be anything.
 abbrev pub IsPassedOver : {A : Type 0} → Picture → A → Type 0

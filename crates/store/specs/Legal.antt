@@ -1,16 +1,17 @@
 -- Rows within their limits, whether the tables show a picture or not.
-use Rattle.std.specs.Prelude.{◌≡◌, ◌⊎◌, ◌<◌, List, length, map, Some, Result, IfOk, OnOk}
-use Rattle.std.specs.List.{All}
+use Rattle.std.specs.Prelude.{◌≡◌, ◌⊎◌, ◌<◌, ◌≤◌, List, length, map, Some, Result, IfOk, OnOk}
+use Rattle.std.specs.List.{All, Contains}
 use Rattle.sqlite.specs.Effect.{Database}
 use Rattle.sqlite.specs.Held.{Held, state}
 use Rattle.sqlite.specs.Order.{Row}
 use Rattle.sqlite.specs.State.{HasCleanDisk}
 use Rattle.sqlite.specs.Store.{Ghosts}
 use Rattle.sqlite_rules.specs.Lists.{Has}
+use Rattle.sqlite_trees.specs.Tree.{IsAscending}
 use Rattle.sql_maps.specs.Maps.{Maps, Holds, PairBelow}
 use Rattle.circ_tables.specs.Barcodes.{barcodes}
 use Rattle.circ_tables.specs.Branches.{branches}
-use Rattle.circ_tables.specs.Cells.{meta_cells, kept_cells}
+use Rattle.circ_tables.specs.Cells.{owner_number, meta_cells, kept_cells}
 use Rattle.circ_tables.specs.ClosedDays.{closed_days}
 use Rattle.circ_tables.specs.Copies.{copies}
 use Rattle.circ_tables.specs.Encoding.{AreEncoded}
@@ -85,11 +86,14 @@ pub record Reviews {S A : Type 0} (Is : Picture → A → Type 0) (Met : Maps �
   pub view : Views Is g old new result
   pub met : OverMaps (λ x maps. Met maps) g old new result
 
--- A batch of the kept rows: each row to come is in it, or comes after all its rows, of which there is at
--- least one.
-pub record IsKeptBatch (IsToCome : Row → Type 0) (batch : List KeptRow) (maps : Maps) : Type 0 where
+-- The next batch of the kept rows after this one, in order: each row to come is in it, or comes after all its
+-- rows, of which there is at least one. None is of an earlier caller.
+pub record IsKeptBatch (last : KeptRow) (batch : List KeptRow) (maps : Maps) : Type 0 where
   pub limits : All kept.IsLegal batch
-  pub whole : (k v : Row) → maps kept.place k ≡ Some v → IsToCome v
+  pub sound : (v : Row) → Has (map kept_cells batch) v → (k : Row) × (maps kept.place k ≡ Some v)
+  pub rises : IsAscending PairBelow (map kept_cells batch)
+  pub later : (r : KeptRow) → Contains batch r → owner_number last.caller ≤ owner_number r.caller
+  pub whole : (k v : Row) → maps kept.place k ≡ Some v → PairBelow (kept_cells last) v
       → Has (map kept_cells batch) v ⊎ ((0 < length batch) × ((w : Row) → Has (map kept_cells batch) w → PairBelow w v))
 
 -- An answer comes only if no row is damaged.

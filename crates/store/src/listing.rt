@@ -15,7 +15,7 @@ ghost use Rattle.circ_tables.specs.Kept.{kept};
 ghost use Rattle.circ_tables.specs.Kinds.{kinds};
 ghost use Rattle.circ_tables.specs.Rules.{rules};
 
-use crate::batches::{pass_over_kept, read_batches};
+use crate::batches::{kept_by_caller, read_batches};
 use crate::idle::committed_is_held;
 use crate::store::Store;
 use circ_tables::{all_barcodes, all_closed_days, all_kept, all_rules, every_row, get_meta};
@@ -210,7 +210,7 @@ fn audit_tables<S: Alter>(conn: &mut Connection<S>, alloc: Global) -> Result<Tab
     let owned = read_holdings(conn, alloc)?;
     let done = read_dealings(conn, alloc)?;
     let labels = read_labels(conn, alloc)?;
-    pass_over_kept(conn, alloc)?;
+    let kept = kept_by_caller(conn, alloc)?;
     Ok(Tables {
         meta: set.meta,
         branches: set.branches,
@@ -224,7 +224,7 @@ fn audit_tables<S: Alter>(conn: &mut Connection<S>, alloc: Global) -> Result<Tab
         holds: done.holds,
         transits: done.transits,
         lines: done.lines,
-        kept: Rows::empty(alloc),
+        kept,
         barcodes: labels.barcodes,
         notes: labels.notes,
     })
@@ -240,10 +240,10 @@ impl<S: Alter> Store<S> {
         all_tables(&mut self.conn, alloc)
     }
 
-    /// Reads the rows that the laws of sound tables speak of: those of all tables but `kept`.
-    /// Faults 90, 91, 93.
+    /// Reads the rows that the laws of sound tables speak of: all rows of all tables but `kept`, and
+    /// the first of each caller in `kept`. Faults 90, 91, 93.
     ///
-    /// Also reads the rows of `kept`, but doesn't keep them: memory doesn't grow with them.
+    /// Reads all rows of `kept`, but memory grows only with their callers.
     pub fn audit_tables(&mut self, alloc: Global) -> Result<Tables, Fault>
         ensures looked { Looked InLimits AreAuditTables IsReadable
             S.Store self.old self.new result }

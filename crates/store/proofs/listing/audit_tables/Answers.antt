@@ -11,14 +11,14 @@ pub returns-in_err-labels : goal.returns-in_err-labels
 returns-in_err-labels g c = faults _ _ c.from_residual-in_err-labels.ensures
     (c.in_ok-set.ensures ⨟ c.in_ok-owned.ensures ⨟ c.in_ok-done.ensures ⨟ c.in_err-labels.ensures).view
 
-pub returns-in_err-pass_over_kept : goal.returns-in_err-pass_over_kept
-returns-in_err-pass_over_kept g c =
-    faults _ _ c.from_residual-in_err-pass_over_kept.ensures
-    (c.in_ok-set.ensures ⨟ c.in_ok-owned.ensures ⨟ c.in_ok-done.ensures ⨟ c.in_ok-labels.ensures ⨟ c.in_err-pass_over_kept.ensures).view
+pub returns-in_err-kept : goal.returns-in_err-kept
+returns-in_err-kept g c =
+    faults _ _ c.from_residual-in_err-kept.ensures
+    (c.in_ok-set.ensures ⨟ c.in_ok-owned.ensures ⨟ c.in_ok-done.ensures ⨟ c.in_ok-labels.ensures ⨟ c.in_err-kept.ensures).view
 
 pub returns : goal.returns
 returns g c =
-    tells (c.in_ok-set.ensures ⨟ c.in_ok-owned.ensures ⨟ c.in_ok-done.ensures ⨟ c.in_ok-labels.ensures ⨟ c.in_ok-pass_over_kept.ensures)
+    tells (c.in_ok-set.ensures ⨟ c.in_ok-owned.ensures ⨟ c.in_ok-done.ensures ⨟ c.in_ok-labels.ensures ⨟ c.in_ok-kept.ensures)
     (λ P all. record {
       meta = all.0.meta;
       branches = all.0.branches;
@@ -32,6 +32,7 @@ returns g c =
       holds = all.1.1.0.holds;
       transits = all.1.1.0.transits;
       lines = all.1.1.0.lines;
+      kept = all.1.1.1.1;
       barcodes = all.1.1.1.0.barcodes;
       notes = all.1.1.1.0.notes;
     })
