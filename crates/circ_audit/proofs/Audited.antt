@@ -21,8 +21,8 @@ same-finding a b e = cc
 -- The tables in their order, and the series.
 abbrev tables : List Table
 tables =
-    table.ClosedDays ∷ table.Rules ∷ table.Patrons ∷ table.Copies ∷ table.Loans ∷ table.Holds ∷ table.Transits ∷ table.Lines ∷ table.Barcodes
-    ∷ table.Notes ∷ []
+    table.ClosedDays ∷ table.Rules ∷ table.Patrons ∷ table.Copies ∷ table.Loans ∷ table.Holds ∷ table.Transits ∷ table.Lines ∷ table.Kept
+    ∷ table.Barcodes ∷ table.Notes ∷ []
 
 abbrev table_at : ℕ → Table
 table_at place = get_or tables place table.Notes
@@ -36,6 +36,7 @@ at-table table.Loans = refl
 at-table table.Holds = refl
 at-table table.Transits = refl
 at-table table.Lines = refl
+at-table table.Kept = refl
 at-table table.Barcodes = refl
 at-table table.Notes = refl
 

@@ -1,9 +1,12 @@
 -- Which rows the rows of a table name, and whether these exist.
 use Rattle.std.specs.Prelude.{◌≡◌, ◌==◌, ◌&&◌, ℕ, Bool, true, List, All, find, is_some, Option, Some, None}
+use Rattle.terms.specs.declared.command.Owner.{Owner}
+use Rattle.terms.specs.declared.command.Owner.TheVariants as owner
 use Rattle.terms.specs.declared.row.BarcodeRow.{BarcodeRow}
 use Rattle.terms.specs.declared.row.ClosedDayRow.{ClosedDayRow}
 use Rattle.terms.specs.declared.row.CopyRow.{CopyRow}
 use Rattle.terms.specs.declared.row.HoldRow.{HoldRow}
+use Rattle.terms.specs.declared.row.KeptRow.{KeptRow}
 use Rattle.terms.specs.declared.row.LineRow.{LineRow}
 use Rattle.terms.specs.declared.row.LoanRow.{LoanRow}
 use Rattle.terms.specs.declared.row.NoteRow.{NoteRow}
@@ -13,9 +16,10 @@ use Rattle.terms.specs.declared.row.Thing.{Thing}
 use Rattle.terms.specs.declared.row.Thing.TheVariants as thing
 use Rattle.terms.specs.declared.row.TransitRow.{TransitRow}
 use Rattle.terms.specs.declared.tables.Tables.{Tables}
+use Rattle.terms.specs.Callers.{owner_number}
 use Rattle.terms.specs.Things.{thing_number}
 use Rattle.circ_audit.specs.declared.references.Table.{Table}
-use Rattle.circ_audit.specs.declared.references.Table.TheVariants.{ClosedDays, Rules, Patrons, Copies, Loans, Holds, Transits, Lines, Barcodes, Notes}
+use Rattle.circ_audit.specs.declared.references.Table.TheVariants.{ClosedDays, Rules, Patrons, Copies, Loans, Holds, Transits, Lines, Kept, Barcodes, Notes}
 
 -- A row has the number.
 abbrev pub has : {R : Type 0} → (R → ℕ) → List R → ℕ → Bool
@@ -48,6 +52,11 @@ abbrev pub has_thing : Tables → Thing → Bool
 has_thing t (thing.Patron patron) = has_patron t patron
 has_thing t (thing.Copy copy) = has_copy t copy
 
+-- The caller is the desk, or a patron with a row.
+abbrev pub has_caller : Tables → Owner → Bool
+has_caller t owner.Desk = true
+has_caller t (owner.Patron patron) = has_patron t patron
+
 -- ---- what a row names exists
 
 abbrev pub closed_day_refers : Tables → ClosedDayRow → Bool
@@ -75,6 +84,9 @@ transit_refers t r = has_copy t r.copy && (has_branch t r.goal && has_named (λ 
 abbrev pub line_refers : Tables → LineRow → Bool
 line_refers t r = has_patron t r.patron && has_named (λ q. q.loan) t.loans r.loan
 
+abbrev pub kept_refers : Tables → KeptRow → Bool
+kept_refers t r = has_caller t r.caller
+
 abbrev pub barcode_refers : Tables → BarcodeRow → Bool
 barcode_refers t r = has_thing t r.thing
 
@@ -87,7 +99,7 @@ note_refers t r = has (λ q. q.line) t.lines r.line && has_branch t r.branch
 abbrev pub ArePassed : {R : Type 0} → (R → ℕ) → (R → Bool) → List R → ℕ → Type 0
 ArePassed last_of passes rows n = All (λ r. last_of r ≡ n → passes r ≡ true) rows
 
--- Each row of the table whose key ends with the number names existing rows alone.
+-- Each row of the table whose key has this last number names existing rows alone.
 abbrev pub IsReferred : Tables → Table → ℕ → Type 0
 IsReferred t ClosedDays = ArePassed (λ r. r.day) (closed_day_refers t) t.closed_days
 IsReferred t Rules = ArePassed (λ r. r.copy_kind) (rule_refers t) t.rules
@@ -97,6 +109,7 @@ IsReferred t Loans = ArePassed (λ r. r.loan) (loan_refers t) t.loans
 IsReferred t Holds = ArePassed (λ r. r.hold) (hold_refers t) t.holds
 IsReferred t Transits = ArePassed (λ r. r.copy) (transit_refers t) t.transits
 IsReferred t Lines = ArePassed (λ r. r.line) (line_refers t) t.lines
+IsReferred t Kept = ArePassed (λ r. owner_number r.caller) (kept_refers t) t.kept
 IsReferred t Barcodes = ArePassed (λ r. thing_number r.thing) (barcode_refers t) t.barcodes
 IsReferred t Notes = ArePassed (λ r. r.line) (note_refers t) t.notes
 
@@ -110,5 +123,6 @@ place_of_table Loans = 4
 place_of_table Holds = 5
 place_of_table Transits = 6
 place_of_table Lines = 7
-place_of_table Barcodes = 8
-place_of_table Notes = 9
+place_of_table Kept = 8
+place_of_table Barcodes = 9
+place_of_table Notes = 10

@@ -2,19 +2,21 @@
 
 ghost use Rattle.std.specs.Prelude.{◌≡◌, ◌+◌, MatchOption};
 ghost use Rattle.circ_audit.specs.References.{has, has_named, has_branch, has_kind, has_patron};
-ghost use Rattle.circ_audit.specs.References.{has_title, has_copy, has_thing};
+ghost use Rattle.circ_audit.specs.References.{has_title, has_copy, has_thing, has_caller};
 ghost use Rattle.circ_audit.specs.References.{closed_day_refers, rule_refers, patron_refers};
 ghost use Rattle.circ_audit.specs.References.{copy_refers, loan_refers, hold_refers};
-ghost use Rattle.circ_audit.specs.References.{transit_refers, line_refers, barcode_refers};
-ghost use Rattle.circ_audit.specs.References.{note_refers, ArePassed, IsReferred, place_of_table};
+ghost use Rattle.circ_audit.specs.References.{transit_refers, line_refers, kept_refers};
+ghost use Rattle.circ_audit.specs.References.{barcode_refers, note_refers};
+ghost use Rattle.circ_audit.specs.References.{ArePassed, IsReferred, place_of_table};
 ghost use Rattle.circ_audit.specs.Sound.{FailsFirst, AreAllReferred, IsFirstReference};
 ghost use Rattle.circ_audit.specs.Spans.{first_after};
 
 use crate::rows::{Keyed, Numbered};
 use crate::spans::lesser;
 use terms::{
-    BarcodeRow, BranchId, ClosedDayRow, CopyId, CopyRow, HoldId, HoldRow, LineRow, LoanId, LoanRow,
-    NoteRow, PatronId, PatronKind, PatronRow, Rows, RuleRow, Tables, Thing, TitleId, TransitRow,
+    BarcodeRow, BranchId, ClosedDayRow, CopyId, CopyRow, HoldId, HoldRow, KeptRow, LineRow, LoanId,
+    LoanRow, NoteRow, Owner, PatronId, PatronKind, PatronRow, Rows, RuleRow, Tables, Thing,
+    TitleId, TransitRow,
 };
 
 /// A table whose rows name rows of others, in the order of the audit.
@@ -36,6 +38,8 @@ pub enum Table {
     Transits,
     /// `lines`.
     Lines,
+    /// `kept`, by caller.
+    Kept,
     /// `barcodes`, by patron or copy.
     Barcodes,
     /// `notes`, by line.
@@ -45,7 +49,7 @@ pub enum Table {
 impl Table {
     /// Returns the next table in the order of the audit.
     fn next(self) -> Option<Table>
-        ensures { MatchOption result (place_of_table self ≡ 9)
+        ensures { MatchOption result (place_of_table self ≡ 10)
             (λ next. place_of_table next ≡ place_of_table self + 1) }
     {
         match self {
@@ -56,7 +60,8 @@ impl Table {
             Table::Loans => Some(Table::Holds),
             Table::Holds => Some(Table::Transits),
             Table::Transits => Some(Table::Lines),
-            Table::Lines => Some(Table::Barcodes),
+            Table::Lines => Some(Table::Kept),
+            Table::Kept => Some(Table::Barcodes),
             Table::Barcodes => Some(Table::Notes),
             Table::Notes => None,
         }
@@ -123,6 +128,16 @@ fn has_thing(tables: &Tables, thing: Thing) -> bool
     match thing {
         Thing::Patron(patron) => has_patron(tables, patron),
         Thing::Copy(copy) => has_copy(tables, copy),
+    }
+}
+
+/// Returns whether the caller exists, as the desk always does.
+fn has_caller(tables: &Tables, caller: Owner) -> bool
+    ensures { result ≡ has_caller tables.now caller }
+{
+    match caller {
+        Owner::Desk => true,
+        Owner::Patron(patron) => has_patron(tables, patron),
     }
 }
 
@@ -217,6 +232,15 @@ impl Refers for LineRow {
     }
 }
 
+/// The patron who sent a kept request, unless the desk did.
+impl Refers for KeptRow {
+    ghost refers = { kept_refers };
+
+    fn refers(&self, tables: &Tables) -> bool {
+        has_caller(tables, self.caller)
+    }
+}
+
 /// The patron or the copy of a barcode.
 impl Refers for BarcodeRow {
     ghost refers = { barcode_refers };
@@ -270,6 +294,7 @@ fn first_of(tables: &Tables, table: Table) -> Option<u32>
         Table::Holds => first_unreferred(tables, tables.holds.as_slice()),
         Table::Transits => first_unreferred(tables, tables.transits.as_slice()),
         Table::Lines => first_unreferred(tables, tables.lines.as_slice()),
+        Table::Kept => first_unreferred(tables, tables.kept.as_slice()),
         Table::Barcodes => first_unreferred(tables, tables.barcodes.as_slice()),
         Table::Notes => first_unreferred(tables, tables.notes.as_slice()),
     }

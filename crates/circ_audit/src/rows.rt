@@ -4,11 +4,12 @@ ghost use Rattle.std.specs.Prelude.{◌≡◌};
 ghost use Rattle.circ_audit.specs.Rows.{is_present, is_ready, is_waiting, is_charge};
 
 use terms::{
-    BarcodeRow, BranchRow, ClosedDayRow, Condition, CopyRow, HoldRow, HoldState, KindRow, LineRow,
-    LoanRow, NoteRow, Ordered, PatronRow, RuleRow, Sort, TitleRow, TransitRow,
+    BarcodeRow, BranchRow, ClosedDayRow, Condition, CopyRow, HoldRow, HoldState, KeptRow, KindRow,
+    LineRow, LoanRow, NoteRow, Ordered, PatronRow, RuleRow, Sort, TitleRow, TransitRow,
+    owner_number,
 };
 
-/// Rows whose key ends with a number.
+/// Rows with numbers in their keys.
 pub trait Keyed {
     ghost use Rattle.std.specs.Prelude.{ℕ};
 
@@ -191,6 +192,18 @@ impl Keyed for RuleRow {
 
     fn last(&self) -> u32 {
         self.copy_kind.number()
+    }
+}
+
+/// Kept requests are keyed by caller and by key. Only the caller is a number: 0 for the desk, else
+/// the patron's.
+impl Keyed for KeptRow {
+    ghost use Rattle.terms.specs.Callers.{owner_number};
+
+    ghost last_of = { λ r. owner_number r.caller };
+
+    fn last(&self) -> u32 {
+        owner_number(self.caller)
     }
 }
 

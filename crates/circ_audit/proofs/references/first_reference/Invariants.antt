@@ -7,4 +7,4 @@ abbrev pub invariant-loop-number : goal.invariant-loop-number
 invariant-loop-number l = (before : Table) → place_of_table before < place_of_table l.table → (m : ℕ) → IsReferred l.tables before m
 
 abbrev pub decreases-loop-number : goal.decreases-loop-number
-decreases-loop-number l = 9 - place_of_table l.table
+decreases-loop-number l = 10 - place_of_table l.table
