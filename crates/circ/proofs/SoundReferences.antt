@@ -12,7 +12,10 @@ use Rattle.store.proofs.OneList.{pair_never}
 use Rattle.terms.specs.Orders.{IsPairBefore}
 use Rattle.terms.proofs.OrderLemmas.{ordered-at}
 use Rattle.terms.specs.Limits.{InLimits}
+use Rattle.terms.specs.Callers.{owner_number}
 use Rattle.terms.specs.Things.{thing_sort, thing_number}
+use Rattle.terms.specs.declared.command.Owner.{Owner}
+use Rattle.terms.specs.declared.command.Owner.TheVariants.{Desk, Patron as Reader}
 use Rattle.terms.specs.declared.row.BarcodeRow.{BarcodeRow}
 use Rattle.terms.specs.declared.row.ClosedDayRow.{ClosedDayRow}
 use Rattle.terms.specs.declared.row.HoldRow.{HoldRow}
@@ -41,9 +44,9 @@ use Rattle.circ_audit.specs.declared.references.Table.{Table}
 use Rattle.circ_audit.specs.declared.references.Table.TheVariants as table
 use Rattle.circ_audit.specs.Barcodes.{has_barcode, AreDistinct}
 use Rattle.circ_audit.specs.Numbers.{is_given, IsGiven, IsNumbered}
-use Rattle.circ_audit.specs.References.{has, has_named, has_branch, has_kind, has_patron, has_title, has_copy, has_thing, IsReferred}
+use Rattle.circ_audit.specs.References.{has, has_named, has_branch, has_kind, has_patron, has_title, has_copy, has_thing, has_caller, IsReferred}
 use Rattle.circ_audit.specs.References.{closed_day_refers, rule_refers, patron_refers, copy_refers, loan_refers, hold_refers, transit_refers, line_refers}
-use Rattle.circ_audit.specs.References.{barcode_refers, note_refers}
+use Rattle.circ_audit.specs.References.{kept_refers, barcode_refers, note_refers}
 use Rattle.circ_audit.proofs.Lookups.{row-found, find-none, not-eqb}
 use Rattle.circ.proofs.CountedRows.{all-there}
 
@@ -143,6 +146,10 @@ module _ (H : History) (rows : Tables) (legal : IsLegal H) (forms : HasForms H) 
   thing-there (thing.Patron p) there = patron-there p there
   thing-there (thing.Copy c) there = copy-there c there
 
+  caller-there : (o : Owner) → ((p : ℕ) → o ≡ Reader p → is_some ((picture H).patrons p) ≡ true) → has_caller rows o ≡ true
+  caller-there Desk there = refl
+  caller-there (Reader p) there = patron-there p (there p refl)
+
   pub referred : (s : Table) (n : ℕ) → IsReferred rows s n
   referred table.ClosedDays n = all-there (λ r. r.day ≡ n → closed_day_refers rows r ≡ true) rows.closed_days (λ r there same.
       branch-there r.branch (refs.closed_day_branch r.branch r.day (closed r (are.closed_days.sound r there))))
@@ -181,6 +188,8 @@ module _ (H : History) (rows : Tables) (legal : IsLegal H) (forms : HasForms H) 
       rw (patron-there r.patron (refs.line_patron r.line r row))
       (has-if (λ q. q.loan) (picture H).loans rows.loans are.loans (λ m q e. (limits.loans m q e).0) r.loan
       (λ l is. refs.line_loan r.line l r row is)))
+  referred table.Kept n = all-there (λ r. owner_number r.caller ≡ n → kept_refers rows r ≡ true) rows.kept (λ r there same.
+      caller-there r.caller (λ p is. refs.kept_caller r.caller r.key p r (are.kept.sound r there) is))
   referred table.Barcodes n = all-there (λ r. thing_number r.thing ≡ n → barcode_refers rows r ≡ true) rows.barcodes (λ r there same.
       thing-there r.thing (refs.barcode_thing r.thing r (are.barcodes.sound r there)))
   referred table.Notes n = all-there (λ r. r.line ≡ n → note_refers rows r ≡ true) rows.notes (λ r there same.

@@ -1,13 +1,17 @@
 -- All rows of the tables keep or break a law just as the rows that it concerns.
-use Rattle.std.proofs.Common.{◌≡◌, ℕ, List, sym, ◌∙◌, subst}
+use Rattle.std.proofs.Common.{◌≡◌, ℕ, true, List, refl, sym, ◌∙◌, ap, subst}
+use Rattle.std.proofs.lemmas.List.Elements.{All-contains}
 use Rattle.circ_tables.specs.Barcodes.{barcodes}
 use Rattle.circ_tables.specs.Cells.{thing_sort, thing_number}
 use Rattle.circ_tables.specs.ClosedDays.{closed_days}
 use Rattle.circ_tables.specs.Rules.{rules}
 use Rattle.store.specs.Lists.{AllPass, AreTables, AreAuditTables}
 use Rattle.store.proofs.OneList.{one_rows, one_all, pair_never}
+use Rattle.terms.specs.Callers.{owner_number}
 use Rattle.terms.specs.Orders.{IsPairBefore}
 use Rattle.terms.specs.Pictures.{Picture}
+use Rattle.terms.specs.declared.command.Owner.{Owner}
+use Rattle.terms.specs.declared.command.Owner.TheVariants.{Desk, Patron as Reader}
 use Rattle.terms.specs.declared.row.KeptRow.{KeptRow}
 use Rattle.terms.specs.declared.tables.Tables.{Tables}
 use Rattle.circ_audit.specs.declared.auditing.Finding.{Finding}
@@ -15,14 +19,15 @@ use Rattle.circ_audit.specs.declared.auditing.Finding.TheVariants.{Claims, Bindi
 use Rattle.circ_audit.specs.Barcodes.{AreDistinct, IsFirstDoubled}
 use Rattle.circ_audit.specs.Sound.{IsSound, IsFirstBroken, IsLeastBroken, IsFirstAmong, IsClaimedOnce, IsRightlyBound, IsBalanced}
 use Rattle.circ_audit.specs.Numbers.{IsNumbered, place_of_series}
-use Rattle.circ_audit.specs.References.{IsReferred, place_of_table}
+use Rattle.circ_audit.specs.References.{has_caller, kept_refers, IsReferred, place_of_table}
 use Rattle.circ_audit.specs.declared.numbers.Series.{Series}
 use Rattle.circ_audit.specs.declared.numbers.Series.TheVariants as series
 use Rattle.circ_audit.specs.declared.references.Table.{Table}
 use Rattle.circ_audit.specs.declared.references.Table.TheVariants as table
 use Rattle.circ.specs.Auditing.{AreSound, IsDoubled}
+use Rattle.circ.proofs.CountedRows.{all-there}
 
--- The tables with other rows of `kept`, of which no law speaks.
+-- The tables with other rows of `kept`.
 abbrev with_kept : Tables → List KeptRow → Tables
 with_kept t kept = record t { kept = kept }
 
@@ -34,7 +39,14 @@ among_with : {A : Type 0} (place_of : A → ℕ) {Law Other : A → ℕ → Type
     → (a : A) (n : ℕ) → IsFirstAmong place_of Law a n → IsFirstAmong place_of Other a n
 among_with place_of to from a n first = record { before = λ b low m. to b m (first.before b low m); least = least_with (to a) (from a) n first.least }
 
-module _ (t : Tables) (kept : List KeptRow) where
+-- The same callers exist.
+caller_with : (t : Tables) (kept : List KeptRow) (o : Owner) → has_caller t o ≡ has_caller (with_kept t kept) o
+caller_with t kept Desk = refl
+caller_with t kept (Reader p) = refl
+
+-- No law but that of references speaks of `kept`, and that only of its callers.
+module _ (t : Tables) (kept : List KeptRow) (kept_with : (n : ℕ) → IsReferred t table.Kept n → IsReferred (with_kept t kept) table.Kept n)
+    (kept_from : (n : ℕ) → IsReferred (with_kept t kept) table.Kept n → IsReferred t table.Kept n) where
   claimed_with : (copy : ℕ) → IsClaimedOnce t copy → IsClaimedOnce (with_kept t kept) copy
   claimed_with copy is = is
 
@@ -62,6 +74,7 @@ module _ (t : Tables) (kept : List KeptRow) where
   referred_with table.Holds n is = is
   referred_with table.Transits n is = is
   referred_with table.Lines n is = is
+  referred_with table.Kept n is = kept_with n is
   referred_with table.Barcodes n is = is
   referred_with table.Notes n is = is
 
@@ -74,6 +87,7 @@ module _ (t : Tables) (kept : List KeptRow) where
   referred_from table.Holds n is = is
   referred_from table.Transits n is = is
   referred_from table.Lines n is = is
+  referred_from table.Kept n is = kept_from n is
   referred_from table.Barcodes n is = is
   referred_from table.Notes n is = is
 
@@ -138,17 +152,31 @@ module _ (P : Picture) (all some : Tables) (whole : AreTables P all) (are : AreA
     notes = one_rows (λ r. r.line) P.notes AllPass some.notes all.notes are.notes whole.notes i;
   }
 
+  -- A caller of one of them is a caller of the other.
+  kept_with : (n : ℕ) → IsReferred some table.Kept n → IsReferred (with_kept some all.kept) table.Kept n
+  kept_with n passed = all-there (λ r. owner_number r.caller ≡ n → kept_refers (with_kept some all.kept) r ≡ true) all.kept (λ r there same.
+      let own = are.kept.whole r.caller r.key r (whole.kept.sound r there) in
+      let s : KeptRow = own.0 in
+      let its = All-contains (λ r. owner_number r.caller ≡ n → kept_refers some r ≡ true) some.kept s passed own.1 (ap owner_number own.2 ∙ same) in
+      sym (caller_with some all.kept r.caller) ∙ subst (λ (o : Owner). has_caller some o ≡ true) own.2 its)
+
+  kept_from : (n : ℕ) → IsReferred (with_kept some all.kept) table.Kept n → IsReferred some table.Kept n
+  kept_from n passed = all-there (λ r. owner_number r.caller ≡ n → kept_refers some r ≡ true) some.kept (λ r there same.
+      let own = whole.kept.whole (r.caller, r.key) r (are.kept.sound r there) in
+      caller_with some all.kept r.caller
+      ∙ All-contains (λ r. owner_number r.caller ≡ n → kept_refers (with_kept some all.kept) r ≡ true) all.kept r passed own same)
+
   pub sound_as : AreSound some → AreSound all
   sound_as sound = record {
-    laws = subst IsSound rows_are (sound_with some all.kept sound.laws);
+    laws = subst IsSound rows_are (sound_with some all.kept kept_with kept_from sound.laws);
     barcodes = subst (λ t. AreDistinct t.barcodes) rows_are sound.barcodes;
   }
 
   pub doubled_as : (number : ℕ) → IsDoubled number some → IsDoubled number all
   doubled_as number is = record {
-    laws = subst IsSound rows_are (sound_with some all.kept is.laws);
+    laws = subst IsSound rows_are (sound_with some all.kept kept_with kept_from is.laws);
     doubled = subst (λ t. IsFirstDoubled t.barcodes number) rows_are is.doubled;
   }
 
   pub broken_as : (finding : Finding) → IsFirstBroken some finding → IsFirstBroken all finding
-  broken_as finding first = subst (λ t. IsFirstBroken t finding) rows_are (broken_with some all.kept finding first)
+  broken_as finding first = subst (λ t. IsFirstBroken t finding) rows_are (broken_with some all.kept kept_with kept_from finding first)

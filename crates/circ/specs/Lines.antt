@@ -65,6 +65,7 @@ reference_words table.Loans = codes "reference loans3 "
 reference_words table.Holds = codes "reference holds2 "
 reference_words table.Transits = codes "reference transits "
 reference_words table.Lines = codes "reference lines "
+reference_words table.Kept = codes "reference kept "
 reference_words table.Barcodes = codes "reference barcodes "
 reference_words table.Notes = codes "reference notes "
 

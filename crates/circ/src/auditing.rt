@@ -21,9 +21,9 @@ fn legal_tables_are_sound()
 /// with this number has the barcode of another; `unsound numbers TABLE N` if besides a table of older
 /// schemas, `rules`, `loans` or `holds`, has a row; or `fault N`. Changes nothing.
 ///
-/// Reads all rows in batches and keeps those the laws speak of, which are all but those of `kept`.
-/// Takes memory for barcodes, and none for the laws. Then reads the first batch of each table of
-/// older schemas.
+/// Reads all rows in batches and keeps those the laws speak of: all but those of `kept`, of which it
+/// keeps the first of each caller. Takes memory for barcodes, and none for the laws. Then reads the
+/// first batch of each table of older schemas.
 ///
 /// `specs/Auditing` states the line, the exit and what the tables show. If they show a list of
 /// accepted requests, the line is `sound` or a fault other than 93. If a write fails, a prefix of

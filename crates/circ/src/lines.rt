@@ -198,6 +198,7 @@ fn reference_words(table: Table) -> &'static [u8]
         Table::Holds => b"reference holds2 ",
         Table::Transits => b"reference transits ",
         Table::Lines => b"reference lines ",
+        Table::Kept => b"reference kept ",
         Table::Barcodes => b"reference barcodes ",
         Table::Notes => b"reference notes ",
     }
