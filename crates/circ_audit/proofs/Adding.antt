@@ -10,8 +10,8 @@ use Rattle.terms.specs.declared.row.PatronRow.{PatronRow}
 use Rattle.circ_audit.specs.declared.balance.Totals.{Totals}
 use Rattle.circ_audit.specs.declared.spans.SpanLook.{SpanLook}
 use Rattle.circ_audit.specs.Spans.{span_of, place_of, lesser_of, IsBelow, FailsOn, LooksAt, Sums, AreWithin, Adds, AddsRows, broken_after}
-use Rattle.circ_audit.specs.Spans.{next_after, is_right, LooksAtRows}
-use Rattle.circ_audit.proofs.Firsts.{fails-more, fails-same, all-before, all-last, all-with}
+use Rattle.circ_audit.specs.Spans.{next_after, is_after, is_passed, is_right, LooksAtRows}
+use Rattle.circ_audit.proofs.Firsts.{fails-more, fails-same, passed-right, passed-not, all-before, all-last, all-with}
 
 -- A list of nothing but zeros.
 pub zero-at : (size k : ℕ) → ◌≡◌ {A = ℕ} (get_or (replicate size 0) k 0) 0
@@ -56,35 +56,42 @@ within-more amount i mid new within adds k = let le = adds.within (i * 2 ^ 64) w
 
 -- ---- patrons
 
-module _ (charges credits : Totals) (charged credited : ℕ → ℕ) (charges_are : Sums charges charged) (credits_are : Sums credits credited)
+module _ (after : Option ℕ) (charges credits : Totals) (charged credited : ℕ → ℕ) (charges_are : Sums charges charged) (credits_are : Sums credits credited)
     (one_span : credits.span ≡ charges.span) where
-  -- The row owes the difference, if it is of this patron.
+  -- The row owes the difference, if it is of this patron, who comes after.
   abbrev Owes : ℕ → PatronRow → Type 0
-  Owes n r = r.patron ≡ n → r.owed + credited n ≡ charged n
+  Owes n r = r.patron ≡ n → is_after after r.patron ≡ true → r.owed + credited n ≡ charged n
+
+  -- It is right by the totals, or doesn't come after.
+  abbrev passes : PatronRow → Bool
+  passes r = is_passed after r.patron (is_right r charges credits)
 
   owes-other : (r : PatronRow) (m : ℕ) → m ≢ r.patron → Owes m r
   owes-other r m other same = absurd (other (sym same))
 
   -- On the span, the row is right by the totals exactly if it owes the difference.
-  right-owes : (r : PatronRow) → span_of r.patron ≡ charges.span → is_right r charges credits ≡ true → (m : ℕ) → Owes m r
-  right-owes r on right m same =
+  right-owes : (r : PatronRow) → span_of r.patron ≡ charges.span → passes r ≡ true → (m : ℕ) → Owes m r
+  right-owes r on pass m same is =
+      let right : is_right r charges credits ≡ true = passed-right after r.patron (is_right r charges credits) is pass in
       let equal : r.owed + get_or credits.sums (place_of r.patron) 0 ≡ get_or charges.sums (place_of r.patron) 0 = eqb-true _ _ right in
       let c : get_or credits.sums (place_of r.patron) 0 ≡ credited r.patron = credits_are r.patron (on ∙ sym one_span) in
       let d : get_or charges.sums (place_of r.patron) 0 ≡ charged r.patron = charges_are r.patron on in
       let here : r.owed + credited r.patron ≡ charged r.patron = omega (arith, equal, c, d) in
       subst (λ (n : ℕ). r.owed + credited n ≡ charged n) same here
 
-  wrong-owes : (r : PatronRow) → span_of r.patron ≡ charges.span → is_right r charges credits ≡ false → Owes r.patron r → ⊥
-  wrong-owes r on wrong owes =
+  wrong-owes : (r : PatronRow) → span_of r.patron ≡ charges.span → passes r ≡ false → Owes r.patron r → ⊥
+  wrong-owes r on fails owes =
+      let both : (is_right r charges credits ≡ false) × (is_after after r.patron ≡ true) = passed-not after r.patron (is_right r charges credits) fails in
+      let wrong : is_right r charges credits ≡ false = both.0 in
       let c : get_or credits.sums (place_of r.patron) 0 ≡ credited r.patron = credits_are r.patron (on ∙ sym one_span) in
       let d : get_or charges.sums (place_of r.patron) 0 ≡ charged r.patron = charges_are r.patron on in
-      let here : r.owed + credited r.patron ≡ charged r.patron = owes refl in
+      let here : r.owed + credited r.patron ≡ charged r.patron = owes refl both.1 in
       let equal : r.owed + get_or credits.sums (place_of r.patron) 0 ≡ get_or charges.sums (place_of r.patron) 0 = omega (arith, here, c, d) in
       let right : is_right r charges credits ≡ true = eq-eqb _ _ equal in
       let never : ⊥ = cc in never
 
   module _ (rows : List PatronRow) (i : ℕ) (r : PatronRow) (lt : i < length rows) (is : r ≡ get_or rows i r) (old new : SpanLook)
-      (broken : new.broken ≡ broken_after charges.span (is_right r charges credits) r.patron old.broken)
+      (broken : new.broken ≡ broken_after charges.span (passes r) r.patron old.broken)
       (next : new.next ≡ next_after charges.span r.patron old.next)
       (before : LooksAt (λ n. All (Owes n) (take i rows)) charges.span old) where
     -- The law of the rows up to this one.
@@ -99,16 +106,16 @@ module _ (charges credits : Totals) (charged credited : ℕ → ℕ) (charges_ar
 
     broken-more : FailsOn Next charges.span new.broken
     broken-more = subst (λ (o : Option ℕ). FailsOn Next charges.span o) (sym broken)
-        (go (eqb (span_of r.patron) charges.span) refl (is_right r charges credits) refl)
+        (go (eqb (span_of r.patron) charges.span) refl (passes r) refl)
       where
         kept : ((m : ℕ) → span_of m ≡ charges.span → Owes m r) → FailsOn Next charges.span old.broken
         kept keeps = fails-same (λ n. span_of n ≡ charges.span → All (Owes n) (take i rows))
             (λ n. span_of n ≡ charges.span → Next n) old.broken (λ m law on. back m (law on))
             (λ m law on. all-with rows i r lt is (Owes m) (law on) (keeps m on)) before.broken
 
-        go : (b : Bool) → eqb (span_of r.patron) charges.span ≡ b → (right : Bool) → is_right r charges credits ≡ right
+        go : (b : Bool) → eqb (span_of r.patron) charges.span ≡ b → (right : Bool) → passes r ≡ right
             → FailsOn Next charges.span (cond b (cond right old.broken (Some (lesser_of old.broken r.patron))) old.broken)
-        go false e right f = kept (λ m on same. let yes' : eqb (span_of r.patron) charges.span ≡ true = eq-eqb _ _
+        go false e right f = kept (λ m on same is. let yes' : eqb (span_of r.patron) charges.span ≡ true = eq-eqb _ _
             (ap span_of same ∙ on) in let never : ⊥ = cc in absurd never)
         go true e true f = kept (λ m on. right-owes r (eqb-true _ _ e) f m)
         go true e false f =
@@ -161,9 +168,11 @@ module _ (charges credits : Totals) (charged credited : ℕ → ℕ) (charges_ar
         n = next-more old.next before.between before.ahead
 
 -- One row of a patron more was looked at.
-pub rows-more : (rows : List PatronRow) (i : ℕ) (r : PatronRow) (charges credits : Totals) (old new : SpanLook) → i < length rows → r ≡ get_or rows i r
-    → new.broken ≡ broken_after charges.span (is_right r charges credits) r.patron old.broken → new.next ≡ next_after charges.span r.patron old.next
-    → LooksAtRows (take i rows) charges credits old → LooksAtRows (take (i + 1) rows) charges credits new
-rows-more rows i r charges credits old new lt is broken next before charged credited charges_are credits_are one_span =
-    looked-more charges credits charged credited charges_are credits_are one_span rows i r lt is old new broken next
+pub rows-more : (after : Option ℕ) (rows : List PatronRow) (i : ℕ) (r : PatronRow) (charges credits : Totals) (old new : SpanLook) → i < length rows
+    → r ≡ get_or rows i r
+    → new.broken ≡ broken_after charges.span (is_passed after r.patron (is_right r charges credits)) r.patron old.broken
+    → new.next ≡ next_after charges.span r.patron old.next
+    → LooksAtRows after (take i rows) charges credits old → LooksAtRows after (take (i + 1) rows) charges credits new
+rows-more after rows i r charges credits old new lt is broken next before charged credited charges_are credits_are one_span =
+    looked-more after charges credits charged credited charges_are credits_are one_span rows i r lt is old new broken next
     (before charged credited charges_are credits_are one_span)

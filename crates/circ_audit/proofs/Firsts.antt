@@ -1,13 +1,14 @@
 -- The lowest number for which a law fails.
 use Rattle.std.proofs.Common.{◌≡◌, ◌≢◌, ◌⊎◌, ℕ, ◌+◌, ◌<◌, ◌≤◌, Bool, true, false, cond, Option, Some, None, List, length, take, get_or}
-use Rattle.std.proofs.Common.{refl, sym, ◌∙◌, subst, inl, inr, arith}
+use Rattle.std.proofs.Common.{refl, sym, ◌∙◌, ap, subst, inl, inr, arith, true≢false}
 use Rattle.std.specs.Prelude.{All}
 use Rattle.std.proofs.lemmas.List.{length-take, take-take, get_or-take}
 use Rattle.std.proofs.lemmas.List.Elements.{All-take, All-more}
 use Rattle.std.proofs.lemmas.Bool.{cases_eq, cases_lt, ltb-true, ltb-false}
-use Rattle.std.specs.Prelude.{nat_lt, MatchOption}
+use Rattle.std.specs.Prelude.{nat_lt, not, ◌||◌}
 use Rattle.circ_audit.specs.Sound.{IsLeastBroken, FailsFirst}
-use Rattle.circ_audit.specs.Spans.{span_of, lesser_of, earlier_of, IsBelow, FailsOn}
+use Rattle.circ_audit.specs.declared.spans.SpanLook.{SpanLook}
+use Rattle.circ_audit.specs.Spans.{span_of, lesser_of, earlier_of, is_after, is_passed, first_span, HoldsAfter, IsBelow, FailsOn, LooksAt}
 
 -- One more number of which it doesn't hold: `Next` is the law after it.
 pub fails-more : (Law Next : ℕ → Type 0) (first : Option ℕ) (n : ℕ) → ((m : ℕ) → Next m → Law m) → ((m : ℕ) → m ≢ n → Law m → Next m) → (Next n → ⊥)
@@ -43,7 +44,50 @@ fails-both P Q (Some k) (Some n) p q = go (nat_lt n k) refl
     go false e = let le : k ≤ n = ltb-false n k e in
         record { broken = λ both. p.broken both.0; below = λ m below. (p.below m below, q.below m (omega (arith, below, le))) }
 
+-- ---- numbers after another one
+
+-- What passes is right, where the number is after.
+pub passed-right : (after : Option ℕ) (n : ℕ) (right : Bool) → is_after after n ≡ true → is_passed after n right ≡ true → right ≡ true
+passed-right after n true is e = refl
+passed-right after n false is e = let told : not (is_after after n) ≡ false = ap not is in absurd (true≢false (sym e ∙ told))
+
+-- What is right there passes.
+pub passed-if : (after : Option ℕ) (n : ℕ) (right : Bool) → (is_after after n ≡ true → right ≡ true) → is_passed after n right ≡ true
+passed-if after n right law = go (is_after after n) refl
+  where
+    go : (b : Bool) → is_after after n ≡ b → is_passed after n right ≡ true
+    go true is = ap (λ r. r || not (is_after after n)) (law is)
+    go false is = past right
+      where
+        past : (right : Bool) → is_passed after n right ≡ true
+        past true = refl
+        past false = ap not is
+
+-- What doesn't pass is after, and wrong.
+pub passed-not : (after : Option ℕ) (n : ℕ) (right : Bool) → is_passed after n right ≡ false → (right ≡ false) × (is_after after n ≡ true)
+passed-not after n true e = absurd (true≢false e)
+passed-not after n false e = (refl, go (is_after after n) refl)
+  where
+    go : (b : Bool) → is_after after n ≡ b → is_after after n ≡ true
+    go true is = is
+    go false is = let told : not (is_after after n) ≡ true = ap not is in absurd (true≢false (sym told ∙ e))
+
+-- No number of an earlier span than the first is after.
+pub before-first : (Law : ℕ → Type 0) (after : Option ℕ) (m : ℕ) → span_of m < first_span after → HoldsAfter after Law m
+before-first Law None m lt is = absurd (omega (arith, lt))
+before-first Law (Some n) m lt is = let above : n < m = ltb-true n m is in absurd (omega (arith, lt, above))
+
 -- ---- span by span
+
+-- The same law in other words.
+pub looks-same : (Law Next : ℕ → Type 0) (span : ℕ) (look : SpanLook) → ((m : ℕ) → Next m → Law m) → ((m : ℕ) → Law m → Next m) → LooksAt Law span look
+    → LooksAt Next span look
+looks-same Law Next span look back on looks = record {
+  broken = fails-same (λ n. span_of n ≡ span → Law n) (λ n. span_of n ≡ span → Next n) look.broken (λ m law same. back m (law same))
+      (λ m law same. on m (law same)) looks.broken;
+  ahead = looks.ahead;
+  between = λ n later below. on n (looks.between n later below);
+}
 
 module _ (Law : ℕ → Type 0) (span : ℕ) (before : (m : ℕ) → span_of m < span → Law m) where
   -- What is found on a span is the least of all, where the law holds of the spans before.
@@ -105,12 +149,6 @@ module _ {R : Type 0} (rows : List R) (i : ℕ) (x : R) (lt : i < length rows) (
 pub none-found : (Law : ℕ → Type 0) (found : Option ℕ) → ((n : ℕ) → found ≡ Some n → ⊥) → FailsFirst Law found → (n : ℕ) → Law n
 none-found Law None none all = all
 none-found Law (Some k) none least = absurd (none k refl)
-
--- The same of what is found in any form.
-pub unmatched : {A : Type 0} {None-is : Type 0} (Some-is : A → Type 0) (found : Option A) → ((x : A) → found ≡ Some x → ⊥)
-    → MatchOption found None-is Some-is → None-is
-unmatched Some-is None none is = is
-unmatched Some-is (Some x) none is = absurd (none x refl)
 
 -- There is one least number of which it doesn't hold.
 pub least-unique : (Law : ℕ → Type 0) (m n : ℕ) → IsLeastBroken Law m → IsLeastBroken Law n → m ≡ n

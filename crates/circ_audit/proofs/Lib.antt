@@ -6,3 +6,5 @@ mod Gaps
 mod Referring
 mod Binding
 mod Audited
+mod Found
+mod Doubling

@@ -3,8 +3,8 @@ use Rattle.std.proofs.Common.{◌≡◌, ◌⊎◌, ℕ, ◌+◌, ◌<◌, ◌�
 use Rattle.std.proofs.lemmas.Bool.{cases_lt}
 use Rattle.circ_audit.specs.References.{ArePassed}
 use Rattle.circ_audit.specs.Sound.{IsLeastBroken, FailsFirst, IsFirstAmong}
-use Rattle.circ_audit.specs.Spans.{first_after}
-use Rattle.circ_audit.proofs.Firsts.{row-breaks, row-keeps, least-unique}
+use Rattle.circ_audit.specs.Spans.{first_after, is_after, is_passed, HoldsAfter, FailsAfter}
+use Rattle.circ_audit.proofs.Firsts.{fails-same, passed-if, passed-right, row-breaks, row-keeps, least-unique}
 
 module _ {R : Type 0} (last_of : R → ℕ) (passes : R → Bool) (i : ℕ) (first : Option ℕ) (rows : List R) (r : R) (lt : i < length rows)
     (is : r ≡ get_or rows i r) (before : FailsFirst (ArePassed last_of passes (take i rows)) first) where
@@ -17,6 +17,21 @@ module _ {R : Type 0} (last_of : R → ℕ) (passes : R → Bool) (i : ℕ) (fir
       go false e =
           row-breaks rows i r lt is (λ n q. last_of q ≡ n → passes q ≡ true) first (last_of r) (λ m other same. absurd (other (sym same)))
           (λ pass. let yes : passes r ≡ true = pass refl in let never : ⊥ = cc in never) before
+
+-- Where the rows that don't come after a number pass as they are.
+pub passed-after : {R : Type 0} (last_of : R → ℕ) (passes : R → Bool) (rows : List R) (after first : Option ℕ)
+    → FailsFirst (ArePassed last_of (λ r. is_passed after (last_of r) (passes r)) rows) first → FailsAfter after (ArePassed last_of passes rows) first
+passed-after {R} last_of passes rows after first =
+    fails-same (ArePassed last_of (λ r. is_passed after (last_of r) (passes r)) rows) (HoldsAfter after (ArePassed last_of passes rows)) first back on
+  where
+    back : (m : ℕ) → HoldsAfter after (ArePassed last_of passes rows) m → ArePassed last_of (λ r. is_passed after (last_of r) (passes r)) rows m
+    back m law k d lt same =
+        passed-if after (last_of (get_or rows k d)) (passes (get_or rows k d))
+        (λ is. law (subst (λ (n : ℕ). is_after after n ≡ true) same is) k d lt same)
+
+    on : (m : ℕ) → ArePassed last_of (λ r. is_passed after (last_of r) (passes r)) rows m → HoldsAfter after (ArePassed last_of passes rows) m
+    on m all is k d lt same =
+        passed-right after (last_of (get_or rows k d)) (passes (get_or rows k d)) (subst (λ (n : ℕ). is_after after n ≡ true) (sym same) is) (all k d lt same)
 
 -- ---- laws in an order
 

@@ -1,4 +1,5 @@
 pub mod Barcodes
+pub mod Findings
 pub mod Numbers
 pub mod References
 pub mod Rows

@@ -1,5 +1,5 @@
 -- The numbers of loans, holds and lines: those given so far, without a gap.
-use Rattle.std.specs.Prelude.{◌≡◌, ◌==◌, ◌&&◌, ◌+◌, ◌<◌, ◌≤◌, ℕ, nat_lt, Bool, false, List, [], ◌∷◌, length, get_or}
+use Rattle.std.specs.Prelude.{◌≡◌, ◌==◌, ◌&&◌, ◌+◌, ◌<◌, ◌≤◌, ℕ, nat_lt, Bool, false, List, [], ◌∷◌, length, get_or, Option, Some, None}
 use Rattle.terms.specs.declared.tables.Tables.{Tables}
 use Rattle.circ_audit.specs.declared.numbers.Series.{Series}
 use Rattle.circ_audit.specs.declared.numbers.Series.TheVariants.{Loans, Holds, Lines}
@@ -18,11 +18,22 @@ abbrev pub begins_with_zero : {R : Type 0} → (R → ℕ) → List R → Bool
 begins_with_zero number_of (r ∷ rows) = number_of r == 0
 begins_with_zero number_of [] = false
 
--- The first `count` rows are numbered 1, 2, 3 and so on, and the row after them isn't.
-pub record IsBeforeGap {R : Type 0} (number_of : R → ℕ) (rows : List R) (count : ℕ) : Type 0 where
+-- The lowest number from 1 on after the other, which may be missing.
+abbrev pub next_of : Option ℕ → ℕ
+next_of (Some n) = n + 1
+next_of None = 1
+
+-- The rows from this place on are those with numbers from this one on.
+pub record IsPlaceOf {R : Type 0} (number_of : R → ℕ) (rows : List R) (from place : ℕ) : Type 0 where
+  pub within : place ≤ length rows
+  pub before : (i : ℕ) (d : R) → i < place → number_of (get_or rows i d) < from
+  pub after : (i : ℕ) (d : R) → place ≤ i → i < length rows → from ≤ number_of (get_or rows i d)
+
+-- The first `count` rows are numbered from this one on without a gap, and the row after them isn't.
+pub record IsBeforeGap {R : Type 0} (number_of : R → ℕ) (from : ℕ) (rows : List R) (count : ℕ) : Type 0 where
   pub within : count ≤ length rows
-  pub before : (i : ℕ) (d : R) → i < count → number_of (get_or rows i d) ≡ i + 1
-  pub after : (d : R) → count < length rows → number_of (get_or rows count d) ≡ count + 1 → ⊥
+  pub before : (i : ℕ) (d : R) → i < count → number_of (get_or rows i d) ≡ from + i
+  pub after : (d : R) → count < length rows → number_of (get_or rows count d) ≡ from + count → ⊥
 
 -- The same for the rows of a table.
 abbrev pub IsNumbered : Tables → Series → ℕ → Type 0

@@ -1,5 +1,5 @@
 -- Numbers, looked at span by span.
-use Rattle.std.specs.Prelude.{◌≡◌, ◌==◌, ℕ, ◌+◌, ◌/◌, ◌%◌, ◌^◌, ◌<◌, ◌≤◌, nat_lt, Bool, List, All, Option, Some, None, IfSome, sum_by}
+use Rattle.std.specs.Prelude.{◌≡◌, ◌==◌, ◌||◌, ℕ, ◌+◌, ◌/◌, ◌%◌, ◌^◌, ◌<◌, ◌≤◌, nat_lt, not, Bool, true, List, All, Option, Some, None, IfSome, sum_by}
 use Rattle.std.specs.Prelude.{slice_index, if◌then◌else◌}
 use Rattle.terms.specs.declared.row.PatronRow.{PatronRow}
 use Rattle.terms.specs.declared.row.LineRow.{LineRow}
@@ -15,6 +15,28 @@ span_of n = n / 65536
 -- The place of a number in its span.
 abbrev pub place_of : ℕ → ℕ
 place_of n = n % 65536
+
+-- The number comes after the other, which may be missing.
+abbrev pub is_after : Option ℕ → ℕ → Bool
+is_after (Some m) n = nat_lt m n
+is_after None n = true
+
+-- The law holds for the number if that comes after the other.
+abbrev pub HoldsAfter : Option ℕ → (ℕ → Type 0) → ℕ → Type 0
+HoldsAfter after Law n = is_after after n ≡ true → Law n
+
+-- The law holds for every number after the other, or this is the lowest of them for which it fails.
+abbrev pub FailsAfter : Option ℕ → (ℕ → Type 0) → Option ℕ → Type 0
+FailsAfter after Law found = FailsFirst (HoldsAfter after Law) found
+
+-- What is said of the number is right, or it doesn't come after the other.
+abbrev pub is_passed : Option ℕ → ℕ → Bool → Bool
+is_passed after n right = right || not (is_after after n)
+
+-- The span of the lowest number after the other, or the one before.
+abbrev pub first_span : Option ℕ → ℕ
+first_span (Some n) = span_of n
+first_span None = 0
 
 -- The lower of two numbers, the first of which may be missing.
 abbrev pub lesser_of : Option ℕ → ℕ → ℕ
@@ -106,10 +128,10 @@ is_right r charges credits =
     r.owed + slice_index credits.sums (place_of r.patron)
     == slice_index charges.sums (place_of r.patron)
 
--- The rows of patrons were looked at, with totals that are these sums.
-abbrev pub LooksAtRows : List PatronRow → Totals → Totals → SpanLook → Type 0
-LooksAtRows rows charges credits look =
+-- The rows of patrons after the other were looked at, with totals that are these sums.
+abbrev pub LooksAtRows : Option ℕ → List PatronRow → Totals → Totals → SpanLook → Type 0
+LooksAtRows after rows charges credits look =
     (charged credited : ℕ → ℕ) → Sums charges charged → Sums credits credited
     → credits.span ≡ charges.span
-    → LooksAt (λ n. All (λ r. r.patron ≡ n → r.owed + credited n ≡ charged n) rows)
+    → LooksAt (λ n. All (λ r. r.patron ≡ n → is_after after r.patron ≡ true → r.owed + credited n ≡ charged n) rows)
     charges.span look

@@ -1,16 +1,20 @@
 //! Auditing tables.
 
+ghost use Rattle.std.specs.Prelude.{◌≡◌, ◌+◌, IfOk, OnOk};
+ghost use Rattle.circ_audit.specs.Findings.{finding_of, first_of, place_of_part};
+ghost use Rattle.circ_audit.specs.Findings.{AreFindings, AreFindingsBefore};
 ghost use Rattle.circ_audit.specs.Sound.{Audits};
 
-use crate::balance::Balanced;
-use crate::bindings::first_unbound;
-use crate::claims::ClaimedOnce;
-use crate::numbers::{Series, first_number};
-use crate::references::{Table, first_reference};
-use crate::spans::first_broken;
-use terms::{CopyId, HoldId, PatronId, Tables};
+use crate::numbers::Series;
+use crate::parts::{Part, first_wrong};
+use crate::references::Table;
+use std::alloc::Global;
+use terms::{CopyId, HoldId, Memory, PatronId, Tables};
 
-/// The first broken law, with the least number that breaks it.
+/// The most findings of an audit that goes on after the first.
+pub const MOST_FINDINGS: usize = 1_000;
+
+/// A number for which a law fails.
 #[derive(Clone, Copy, Debug, PartialEq, Eq)]
 pub enum Finding {
     /// The copy has more than one claim.
@@ -25,6 +29,19 @@ pub enum Finding {
     Numbers(Series, u32),
 }
 
+/// Returns what a part finds of a number.
+fn finding_of(part: Part, number: u32) -> Finding
+    ensures { result ≡ finding_of part number }
+{
+    match part {
+        Part::Claims => Finding::Claims(CopyId::new(number)),
+        Part::Bindings => Finding::Binding(HoldId::new(number)),
+        Part::Balances => Finding::Balance(PatronId::new(number)),
+        Part::References(table) => Finding::Reference(table, number),
+        Part::Numbers(series) => Finding::Numbers(series, number),
+    }
+}
+
 /// Checks the five laws of sound tables (`specs/Sound.antt`): at most one claim on each copy, ready
 /// and coming holds bound to copies one to one, the balance of each patron, each row that another
 /// names, and the numbers of loans, holds and lines. Returns the first broken law with its least
@@ -33,20 +50,49 @@ pub enum Finding {
 pub fn audit(tables: &Tables) -> Result<(), Finding>
     ensures { Audits tables.now result }
 {
-    if let Some(copy) = first_broken::<ClaimedOnce>(tables) {
-        return Err(Finding::Claims(CopyId::new(copy)));
+    let mut part = Part::Claims;
+    loop {
+        if let Some(number) = first_wrong(tables, part, None) {
+            return Err(finding_of(part, number));
+        }
+        match part.next() {
+            Some(next) => part = next,
+            None => return Ok(()),
+        }
     }
-    if let Some(hold) = first_unbound(tables) {
-        return Err(Finding::Binding(HoldId::new(hold)));
-    }
-    if let Some(patron) = first_broken::<Balanced>(tables) {
-        return Err(Finding::Balance(PatronId::new(patron)));
-    }
-    if let Some(found) = first_reference(tables) {
-        return Err(Finding::Reference(found.table, found.number));
-    }
-    if let Some(found) = first_number(tables) {
-        return Err(Finding::Numbers(found.series, found.number));
+}
+
+/// Adds the findings of a part to those of the parts before it, up to the most that there may be.
+fn add_findings(tables: &Tables, part: Part, found: &mut Vec<Finding>) -> Result<(), Memory>
+    requires { AreFindingsBefore tables.now (place_of_part part) 0 found.old.items }
+    ensures { OnOk result
+        (AreFindingsBefore tables.now (place_of_part part + 1) 0 found.new.items) }
+{
+    let mut after = None;
+    while found.len() < MOST_FINDINGS {
+        let Some(number) = first_wrong(tables, part, after) else {
+            return Ok(());
+        };
+        found.push(finding_of(part, number))?;
+        after = Some(number);
     }
     Ok(())
+}
+
+/// Checks the same laws and goes on after the first finding: returns each number for which a law
+/// fails, in the order of the audit, and no more than 1,000. The head of the list is what an audit
+/// that ends at the first finding gives. Reads the rows of a law once more for each finding.
+pub fn audit_all(alloc: Global, tables: &Tables) -> Result<Vec<Finding>, Memory>
+    ensures findings { IfOk result (λ found. AreFindings tables.now found.items) }
+    ensures first { IfOk result (λ found. Audits tables.now (first_of found.items)) }
+{
+    let mut found = Vec::new(alloc);
+    let mut part = Part::Claims;
+    loop {
+        add_findings(tables, part, &mut found)?;
+        match part.next() {
+            Some(next) => part = next,
+            None => return Ok(found),
+        }
+    }
 }

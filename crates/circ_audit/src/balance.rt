@@ -4,11 +4,12 @@ ghost use Rattle.std.specs.Prelude.{◌≡◌, ◌-◌, ◌^◌, ◌==◌, slice
 ghost use Rattle.std.specs.Prelude.{if◌then◌else◌};
 ghost use Rattle.circ_audit.specs.Rows.{charge, credit};
 ghost use Rattle.circ_audit.specs.Spans.{place_of, Sums, AreWithin, Adds, AddsRows};
-ghost use Rattle.circ_audit.specs.Spans.{broken_after, next_after, is_right, LooksAtRows};
+ghost use Rattle.circ_audit.specs.Spans.{broken_after, next_after, is_passed, is_right};
+ghost use Rattle.circ_audit.specs.Spans.{LooksAtRows};
 ghost use Rattle.circ_audit.specs.Sound.{IsBalanced};
 
 use crate::rows::is_charge;
-use crate::spans::{Law, SPAN, SpanLook, lesser, span_of};
+use crate::spans::{Law, SPAN, SpanLook, is_after, lesser, span_of};
 use terms::{LineRow, PatronRow, Tables};
 
 /// The totals of a span's numbers, in cents.
@@ -85,16 +86,24 @@ fn is_right(row: &PatronRow, charges: &Totals, credits: &Totals) -> bool
     credited <= charged && charged - credited == u128::from(row.owed.number())
 }
 
-/// Checks a patron's row: is it in the span, and right, or in a later span?
-fn look_at(row: &PatronRow, charges: &Totals, credits: &Totals, look: &mut SpanLook)
+/// Checks a patron's row: is it in the span, and right unless it doesn't come after the other, or
+/// in a later span?
+fn look_at(
+    row: &PatronRow,
+    charges: &Totals,
+    credits: &Totals,
+    after: Option<u32>,
+    look: &mut SpanLook,
+)
     ensures broken { look.new.broken ≡ broken_after charges.now.span
-        (is_right row.now charges.now credits.now) row.now.patron look.old.broken }
+        (is_passed after row.now.patron (is_right row.now charges.now credits.now))
+        row.now.patron look.old.broken }
     ensures next { look.new.next ≡ next_after charges.now.span row.now.patron look.old.next }
 {
     let patron = row.patron.number();
     let span = span_of(patron);
     if span == charges.span {
-        if !is_right(row, charges, credits) {
+        if !is_right(row, charges, credits) && is_after(patron, after) {
             look.broken = lesser(look.broken, patron);
         }
     } else if span > charges.span {
@@ -102,16 +111,21 @@ fn look_at(row: &PatronRow, charges: &Totals, credits: &Totals, look: &mut SpanL
     }
 }
 
-/// Checks the patrons of the span against their charges and credits.
-fn look_at_patrons(rows: &[PatronRow], charges: &Totals, credits: &Totals) -> SpanLook
-    ensures { LooksAtRows rows.now charges.now credits.now result }
+/// Checks the patrons of the span after the other against their charges and credits.
+fn look_at_patrons(
+    rows: &[PatronRow],
+    charges: &Totals,
+    credits: &Totals,
+    after: Option<u32>,
+) -> SpanLook
+    ensures { LooksAtRows after rows.now charges.now credits.now result }
 {
     let mut look = SpanLook {
         broken: None,
         next: None,
     };
     for row in rows {
-        look_at(row, charges, credits, &mut look);
+        look_at(row, charges, credits, after, &mut look);
     }
     look
 }
@@ -122,10 +136,10 @@ pub struct Balanced;
 impl Law for Balanced {
     ghost keeps = { IsBalanced };
 
-    fn look(tables: &Tables, span: u16) -> SpanLook {
+    fn look(tables: &Tables, span: u16, after: Option<u32>) -> SpanLook {
         let mut charges = Totals::new(span);
         let mut credits = Totals::new(span);
         add_lines(tables.lines.as_slice(), &mut charges, &mut credits);
-        look_at_patrons(tables.patrons.as_slice(), &charges, &credits)
+        look_at_patrons(tables.patrons.as_slice(), &charges, &credits, after)
     }
 }

@@ -2,12 +2,13 @@
 
 ghost use Rattle.std.specs.Prelude.{◌≡◌};
 ghost use Rattle.circ_audit.specs.Rows.{copy_row, hold_row, is_copy_of, is_fit, serves};
-ghost use Rattle.circ_audit.specs.Spans.{first_after, first_named, earlier_of};
-ghost use Rattle.circ_audit.specs.Sound.{IsServedOnce, IsRightlyBound, FailsFirst, IsFit, IsServed};
+ghost use Rattle.circ_audit.specs.Spans.{first_after, first_named, earlier_of, is_passed};
+ghost use Rattle.circ_audit.specs.Spans.{FailsAfter};
+ghost use Rattle.circ_audit.specs.Sound.{IsServedOnce, IsRightlyBound, IsFit, IsServed};
 
 use crate::counters::{Names, SpanCounters};
 use crate::rows::{is_ready, is_waiting};
-use crate::spans::{Law, SpanLook, first_broken, lesser};
+use crate::spans::{Law, SpanLook, first_broken, is_after, lesser};
 use terms::{CopyId, CopyRow, HoldId, HoldRow, Rows, Tables, TitleId, TransitRow};
 
 /// Finds the row of a copy.
@@ -70,52 +71,60 @@ fn serves(copies: &Rows<CopyRow>, row: &TransitRow, hold: Option<HoldRow>) -> bo
         && is_copy_of(copies, Some(row.copy), hold.title)
 }
 
-/// Returns the least hold whose row doesn't fit its state, after one more row.
-fn unfit_after(tables: &Tables, row: &HoldRow, first: Option<u32>) -> Option<u32>
-    ensures { result ≡ first_after (is_fit tables.now.copies row.now) row.now.hold first }
+/// Returns the least hold that comes after the other and whose row doesn't fit its state, with one
+/// more row.
+fn unfit_with(tables: &Tables, row: &HoldRow, after: Option<u32>, first: Option<u32>) -> Option<u32>
+    ensures { result ≡ first_after
+        (is_passed after row.now.hold (is_fit tables.now.copies row.now)) row.now.hold first }
 {
-    if is_fit(&tables.copies, row) {
+    if is_fit(&tables.copies, row) || !is_after(row.hold.number(), after) {
         first
     } else {
         lesser(first, row.hold.number())
     }
 }
 
-/// Returns the least hold whose row doesn't fit its state.
-fn first_unfit(tables: &Tables) -> Option<u32>
-    ensures { FailsFirst (IsFit tables.now) result }
+/// Returns the least hold that comes after the other and whose row doesn't fit its state.
+fn first_unfit(tables: &Tables, after: Option<u32>) -> Option<u32>
+    ensures { FailsAfter after (IsFit tables.now) result }
 {
     let mut first = None;
     for row in tables.holds.as_slice() {
-        first = unfit_after(tables, row, first);
+        first = unfit_with(tables, row, after, first);
     }
     first
 }
 
-/// Returns the least hold that a transit names without serving it, after one more row.
-fn unserved_after(tables: &Tables, row: &TransitRow, first: Option<u32>) -> Option<u32>
+/// Returns the least hold that comes after the other and that a transit names without serving it,
+/// with one more row.
+fn unserved_with(
+    tables: &Tables,
+    row: &TransitRow,
+    after: Option<u32>,
+    first: Option<u32>,
+) -> Option<u32>
     ensures { result ≡ first_named
-        (λ h. serves tables.now.copies row.now (hold_row tables.now.holds h))
+        (λ h. is_passed after h (serves tables.now.copies row.now (hold_row tables.now.holds h)))
         row.now.hold first }
 {
     let Some(hold) = row.hold else {
         return first;
     };
     let found = hold_row(&tables.holds, hold);
-    if serves(&tables.copies, row, found) {
+    if serves(&tables.copies, row, found) || !is_after(hold.number(), after) {
         first
     } else {
         lesser(first, hold.number())
     }
 }
 
-/// Returns the least hold that a transit names without serving it.
-fn first_unserved(tables: &Tables) -> Option<u32>
-    ensures { FailsFirst (IsServed tables.now) result }
+/// Returns the least hold that comes after the other and that a transit names without serving it.
+fn first_unserved(tables: &Tables, after: Option<u32>) -> Option<u32>
+    ensures { FailsAfter after (IsServed tables.now) result }
 {
     let mut first = None;
     for row in tables.transits.as_slice() {
-        first = unserved_after(tables, row, first);
+        first = unserved_with(tables, row, after, first);
     }
     first
 }
@@ -135,10 +144,10 @@ struct ServedOnce;
 impl Law for ServedOnce {
     ghost keeps = { IsServedOnce };
 
-    fn look(tables: &Tables, span: u16) -> SpanLook {
+    fn look(tables: &Tables, span: u16, after: Option<u32>) -> SpanLook {
         let mut counters = SpanCounters::new(span);
         counters.tally::<HoldId, TransitRow>(tables.transits.as_slice());
-        counters.look()
+        counters.look(after)
     }
 }
 
@@ -152,10 +161,10 @@ fn earlier(first: Option<u32>, other: Option<u32>) -> Option<u32>
     }
 }
 
-/// Returns the least hold that isn't correctly bound.
-pub fn first_unbound(tables: &Tables) -> Option<u32>
-    ensures { FailsFirst (IsRightlyBound tables.now) result }
+/// Returns the least hold that comes after the other and isn't correctly bound.
+pub fn first_unbound(tables: &Tables, after: Option<u32>) -> Option<u32>
+    ensures { FailsAfter after (IsRightlyBound tables.now) result }
 {
-    let alone = earlier(first_unfit(tables), first_unserved(tables));
-    earlier(alone, first_broken::<ServedOnce>(tables))
+    let alone = earlier(first_unfit(tables, after), first_unserved(tables, after));
+    earlier(alone, first_broken::<ServedOnce>(tables, after))
 }

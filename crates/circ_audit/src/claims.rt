@@ -63,12 +63,12 @@ pub struct ClaimedOnce;
 impl Law for ClaimedOnce {
     ghost keeps = { IsClaimedOnce };
 
-    fn look(tables: &Tables, span: u16) -> SpanLook {
+    fn look(tables: &Tables, span: u16, after: Option<u32>) -> SpanLook {
         let mut counters = SpanCounters::new(span);
         counters.tally::<CopyId, LoanRow>(tables.loans.as_slice());
         counters.tally::<CopyId, HoldRow>(tables.holds.as_slice());
         counters.tally::<CopyId, TransitRow>(tables.transits.as_slice());
         counters.tally::<CopyId, CopyRow>(tables.copies.as_slice());
-        counters.look()
+        counters.look(after)
     }
 }

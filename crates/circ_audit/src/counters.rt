@@ -1,10 +1,10 @@
 //! Counters for a span's numbers.
 
-ghost use Rattle.std.specs.Prelude.{◌≡◌, ◌≤◌, ℕ, count_by, if◌then◌else◌};
+ghost use Rattle.std.specs.Prelude.{◌≡◌, ◌+◌, ◌*◌, ◌<◌, ◌≤◌, ℕ, count_by, if◌then◌else◌};
 ghost use Rattle.circ_audit.specs.Rows.{names};
-ghost use Rattle.circ_audit.specs.Spans.{ShowsCounts, CountsMore, LooksAt, FailsOn};
+ghost use Rattle.circ_audit.specs.Spans.{ShowsCounts, CountsMore, HoldsAfter, LooksAt, FailsOn};
 
-use crate::spans::{SPAN, SpanLook, lesser, span_of};
+use crate::spans::{SPAN, SpanLook, is_after, lesser, span_of};
 
 /// Rows that may name a number.
 pub trait Names<N> {
@@ -66,26 +66,34 @@ impl SpanCounters {
         }
     }
 
-    /// Returns the span's least number counted twice.
-    fn twice(&self) -> Option<u32>
+    /// Returns the number at a place of the span.
+    fn number_at(&self, place: usize) -> u32
+        requires { place < 65536 }
+        ensures { result ≡ self.now.span * 65536 + place }
+    {
+        u32::from(self.span) * SPAN + place as u32
+    }
+
+    /// Returns the span's least number after the other that was counted twice.
+    fn twice(&self, after: Option<u32>) -> Option<u32>
         ensures { (times : ℕ → ℕ) → ShowsCounts self.now times
-            → FailsOn (λ n. times n ≤ 1) self.now.span result }
+            → FailsOn (HoldsAfter after (λ n. times n ≤ 1)) self.now.span result }
     {
         for (place, counter) in self.counters.iter().enumerate() {
-            if *counter > 1 {
-                return Some(u32::from(self.span) * SPAN + place as u32);
+            if *counter > 1 && is_after(self.number_at(place), after) {
+                return Some(self.number_at(place));
             }
         }
         None
     }
 
-    /// Checks whether a number of the span was counted twice.
-    pub fn look(&self) -> SpanLook
+    /// Checks whether a number of the span that comes after the other was counted twice.
+    pub fn look(&self, after: Option<u32>) -> SpanLook
         ensures { (times : ℕ → ℕ) → ShowsCounts self.now times
-            → LooksAt (λ n. times n ≤ 1) self.now.span result }
+            → LooksAt (HoldsAfter after (λ n. times n ≤ 1)) self.now.span result }
     {
         SpanLook {
-            broken: self.twice(),
+            broken: self.twice(after),
             next: self.next,
         }
     }

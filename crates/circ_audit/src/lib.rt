@@ -1,5 +1,5 @@
 //! The audit of a library's tables: five laws of all rows read, and the first of them that is
-//! broken.
+//! broken, or all numbers for which one is.
 #![tactic(auto)]
 
 mod auditing;
@@ -9,11 +9,12 @@ mod claims;
 mod counters;
 mod doubled;
 mod numbers;
+mod parts;
 mod references;
 mod rows;
 mod spans;
 
-pub use auditing::{Finding, audit};
-pub use doubled::doubled_barcode;
+pub use auditing::{Finding, MOST_FINDINGS, audit, audit_all};
+pub use doubled::{doubled_barcode, doubled_barcodes};
 pub use numbers::Series;
 pub use references::Table;

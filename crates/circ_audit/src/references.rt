@@ -8,11 +8,10 @@ ghost use Rattle.circ_audit.specs.References.{copy_refers, loan_refers, hold_ref
 ghost use Rattle.circ_audit.specs.References.{transit_refers, line_refers, kept_refers};
 ghost use Rattle.circ_audit.specs.References.{barcode_refers, note_refers};
 ghost use Rattle.circ_audit.specs.References.{ArePassed, IsReferred, place_of_table};
-ghost use Rattle.circ_audit.specs.Sound.{FailsFirst, AreAllReferred, IsFirstReference};
-ghost use Rattle.circ_audit.specs.Spans.{first_after};
+ghost use Rattle.circ_audit.specs.Spans.{first_after, is_passed, FailsAfter};
 
 use crate::rows::{Keyed, Numbered};
-use crate::spans::lesser;
+use crate::spans::{is_after, lesser};
 use terms::{
     BarcodeRow, BranchId, ClosedDayRow, CopyId, CopyRow, HoldId, HoldRow, KeptRow, LineRow, LoanId,
     LoanRow, NoteRow, Owner, PatronId, PatronKind, PatronRow, Rows, RuleRow, Tables, Thing,
@@ -48,7 +47,7 @@ pub enum Table {
 
 impl Table {
     /// Returns the next table in the order of the audit.
-    fn next(self) -> Option<Table>
+    pub fn next(self) -> Option<Table>
         ensures { MatchOption result (place_of_table self ≡ 10)
             (λ next. place_of_table next ≡ place_of_table self + 1) }
     {
@@ -259,67 +258,52 @@ impl Refers for NoteRow {
     }
 }
 
-/// Returns the least last number of a key whose row names a missing one, after one more row.
-fn unreferred_after<R: Refers>(tables: &Tables, row: &R, first: Option<u32>) -> Option<u32>
-    ensures { result ≡ first_after (R.refers tables.now row.now) (R.last_of row.now) first }
+/// Returns the least last number of a key after the other whose row names a missing one, with one
+/// more row.
+fn unreferred_with<R: Refers>(
+    tables: &Tables,
+    row: &R,
+    after: Option<u32>,
+    first: Option<u32>,
+) -> Option<u32>
+    ensures { result ≡ first_after
+        (is_passed after (R.last_of row.now) (R.refers tables.now row.now))
+        (R.last_of row.now) first }
 {
-    if row.refers(tables) {
+    if row.refers(tables) || !is_after(row.last(), after) {
         first
     } else {
         lesser(first, row.last())
     }
 }
 
-/// Returns the least last number of a key whose row names a missing one.
-fn first_unreferred<R: Refers>(tables: &Tables, rows: &[R]) -> Option<u32>
-    ensures { FailsFirst (ArePassed R.last_of (R.refers tables.now) rows.now) result }
+/// Returns the least last number of a key after the other whose row names a missing one.
+fn first_unreferred<R: Refers>(tables: &Tables, rows: &[R], after: Option<u32>) -> Option<u32>
+    ensures { FailsAfter after (ArePassed R.last_of (R.refers tables.now) rows.now) result }
 {
     let mut first = None;
     for row in rows {
-        first = unreferred_after(tables, row, first);
+        first = unreferred_with(tables, row, after, first);
     }
     first
 }
 
-/// Returns the least last number of a key whose row in this table names a missing one.
-fn first_of(tables: &Tables, table: Table) -> Option<u32>
-    ensures { FailsFirst (IsReferred tables.now table) result }
+/// Returns the least last number of a key after the other whose row in this table names a missing
+/// one.
+pub fn first_of(tables: &Tables, table: Table, after: Option<u32>) -> Option<u32>
+    ensures { FailsAfter after (IsReferred tables.now table) result }
 {
     match table {
-        Table::ClosedDays => first_unreferred(tables, tables.closed_days.as_slice()),
-        Table::Rules => first_unreferred(tables, tables.rules.as_slice()),
-        Table::Patrons => first_unreferred(tables, tables.patrons.as_slice()),
-        Table::Copies => first_unreferred(tables, tables.copies.as_slice()),
-        Table::Loans => first_unreferred(tables, tables.loans.as_slice()),
-        Table::Holds => first_unreferred(tables, tables.holds.as_slice()),
-        Table::Transits => first_unreferred(tables, tables.transits.as_slice()),
-        Table::Lines => first_unreferred(tables, tables.lines.as_slice()),
-        Table::Kept => first_unreferred(tables, tables.kept.as_slice()),
-        Table::Barcodes => first_unreferred(tables, tables.barcodes.as_slice()),
-        Table::Notes => first_unreferred(tables, tables.notes.as_slice()),
-    }
-}
-
-/// A row that names a missing one: its table, and the last number of its key.
-#[derive(Clone, Copy, Debug, PartialEq, Eq)]
-pub struct Unreferred {
-    pub table: Table,
-    pub number: u32,
-}
-
-/// Returns the least row of the first table with a row that names a missing one.
-pub fn first_reference(tables: &Tables) -> Option<Unreferred>
-    ensures { MatchOption result (AreAllReferred tables.now)
-        (λ found. IsFirstReference tables.now found.table found.number) }
-{
-    let mut table = Table::ClosedDays;
-    loop {
-        if let Some(number) = first_of(tables, table) {
-            return Some(Unreferred { table, number });
-        }
-        match table.next() {
-            Some(next) => table = next,
-            None => return None,
-        }
+        Table::ClosedDays => first_unreferred(tables, tables.closed_days.as_slice(), after),
+        Table::Rules => first_unreferred(tables, tables.rules.as_slice(), after),
+        Table::Patrons => first_unreferred(tables, tables.patrons.as_slice(), after),
+        Table::Copies => first_unreferred(tables, tables.copies.as_slice(), after),
+        Table::Loans => first_unreferred(tables, tables.loans.as_slice(), after),
+        Table::Holds => first_unreferred(tables, tables.holds.as_slice(), after),
+        Table::Transits => first_unreferred(tables, tables.transits.as_slice(), after),
+        Table::Lines => first_unreferred(tables, tables.lines.as_slice(), after),
+        Table::Kept => first_unreferred(tables, tables.kept.as_slice(), after),
+        Table::Barcodes => first_unreferred(tables, tables.barcodes.as_slice(), after),
+        Table::Notes => first_unreferred(tables, tables.notes.as_slice(), after),
     }
 }

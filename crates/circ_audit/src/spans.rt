@@ -1,8 +1,8 @@
 //! Checking numbers span by span, so that no memory is taken.
 
 ghost use Rattle.std.specs.Prelude.{◌≡◌, Some};
-ghost use Rattle.circ_audit.specs.Spans.{span_of, lesser_of, LooksAt};
-ghost use Rattle.circ_audit.specs.Sound.{FailsFirst};
+ghost use Rattle.circ_audit.specs.Spans.{span_of, first_span, lesser_of, is_after};
+ghost use Rattle.circ_audit.specs.Spans.{HoldsAfter, FailsAfter, LooksAt};
 
 use terms::Tables;
 
@@ -24,9 +24,9 @@ pub trait Law {
 
     ghost keeps: { Tables → ℕ → Type 0 };
 
-    /// Checks the numbers of a span.
-    fn look(tables: &Tables, span: u16) -> SpanLook
-        ensures { LooksAt (keeps tables.now) span result };
+    /// Checks the numbers of a span that come after the other.
+    fn look(tables: &Tables, span: u16, after: Option<u32>) -> SpanLook
+        ensures { LooksAt (HoldsAfter after (keeps tables.now)) span result };
 }
 
 /// Returns the span of a number.
@@ -34,6 +34,26 @@ pub fn span_of(number: u32) -> u16
     ensures { result ≡ span_of number }
 {
     (number / SPAN) as u16
+}
+
+/// Returns whether a number comes after the other, if there is one.
+pub fn is_after(number: u32, other: Option<u32>) -> bool
+    ensures { result ≡ is_after other number }
+{
+    match other {
+        Some(other) => other < number,
+        None => true,
+    }
+}
+
+/// Returns the span to begin with for the numbers after the other.
+fn first_span(after: Option<u32>) -> u16
+    ensures { result ≡ first_span after }
+{
+    match after {
+        Some(number) => span_of(number),
+        None => 0,
+    }
 }
 
 /// Returns the lesser of an optional number and a number.
@@ -46,14 +66,14 @@ pub fn lesser(first: Option<u32>, number: u32) -> Option<u32>
     }
 }
 
-/// Returns the least number that breaks the law. Takes one look per span that has anything to
-/// check.
-pub fn first_broken<L: Law>(tables: &Tables) -> Option<u32>
-    ensures { FailsFirst (L.keeps tables.now) result }
+/// Returns the least number after the other that breaks the law. Takes one look per span from there
+/// on that has anything to check.
+pub fn first_broken<L: Law>(tables: &Tables, after: Option<u32>) -> Option<u32>
+    ensures { FailsAfter after (L.keeps tables.now) result }
 {
-    let mut span = 0;
+    let mut span = first_span(after);
     loop {
-        let look = L::look(tables, span);
+        let look = L::look(tables, span, after);
         if look.broken.is_some() {
             return look.broken;
         }

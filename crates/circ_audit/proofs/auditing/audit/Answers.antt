@@ -1,47 +1,17 @@
-use Rattle.std.proofs.Common.{ℕ, Err, sym, subst}
-use Rattle.circ_audit.specs.declared.auditing.Finding.TheVariants.{Claims, Binding, Balance}
-use Rattle.circ_audit.specs.Sound.{IsClaimedOnce, IsRightlyBound, IsBalanced, Audits}
-use Rattle.circ_audit.proofs.Firsts.{none-found, unmatched}
-use Rattle.circ_audit.proofs.Audited.{audits-claims, audits-binding, audits-balance, audits-reference, audits-numbers, audits-sound}
+use Rattle.std.proofs.Common.{Err, refl, sym, subst}
+use Rattle.circ_audit.specs.declared.auditing.Finding.{Finding}
+use Rattle.circ_audit.specs.Sound.{Audits}
+use Rattle.circ_audit.proofs.Audited.{audits-part, audits-end}
 use Rattle.circ_audit.proofs.auditing.audit.Goals as goal
 
 pub returns-in-Some : goal.returns-in-Some
-returns-in-Some c = subst (λ (n : ℕ). Audits c.args.tables.now (Err (Claims n))) (sym c.new.ensures)
-    (audits-claims c.args.tables.now c.in-Some.copy c.in-Some.ensures)
+returns-in-Some c =
+    subst (λ (finding : Finding). Audits c.args.tables.now (Err finding)) (sym c.finding_of.ensures)
+    (audits-part c.args.tables.now c.loop-number.part c.loop-number.invariant c.in-Some.number (record {
+      broken = λ law. c.in-Some.ensures.broken (λ is. law);
+      below = λ m lt. c.in-Some.ensures.below m lt refl;
+    }))
 
-pub returns-in-Some-first_unbound : goal.returns-in-Some-first_unbound
-returns-in-Some-first_unbound c =
-    subst (λ (n : ℕ). Audits c.args.tables.now (Err (Binding n))) (sym c.new-in-Some-first_unbound.ensures)
-    (audits-binding c.args.tables.now
-    (none-found (IsClaimedOnce c.args.tables.now) c.first_broken.result c.in_default.not-Some c.first_broken.ensures)
-    c.in-Some-first_unbound.hold c.in-Some-first_unbound.ensures)
-
-pub returns-in-Some-first_broken : goal.returns-in-Some-first_broken
-returns-in-Some-first_broken c =
-    subst (λ (n : ℕ). Audits c.args.tables.now (Err (Balance n))) (sym c.new-in-Some-first_broken.ensures)
-    (audits-balance c.args.tables.now (none-found (IsClaimedOnce c.args.tables.now) c.first_broken.result c.in_default.not-Some c.first_broken.ensures)
-    (none-found (IsRightlyBound c.args.tables.now) c.first_unbound.result c.in_default-first_unbound.not-Some c.first_unbound.ensures)
-    c.in-Some-first_broken.patron c.in-Some-first_broken.ensures)
-
-pub returns-in-Some-first_reference : goal.returns-in-Some-first_reference
-returns-in-Some-first_reference c =
-    audits-reference c.args.tables.now (none-found (IsClaimedOnce c.args.tables.now) c.first_broken.result c.in_default.not-Some c.first_broken.ensures)
-    (none-found (IsRightlyBound c.args.tables.now) c.first_unbound.result c.in_default-first_unbound.not-Some c.first_unbound.ensures)
-    (none-found (IsBalanced c.args.tables.now) c.first_broken-2.result c.in_default-first_broken.not-Some c.first_broken-2.ensures)
-    c.in-Some-first_reference.found.table c.in-Some-first_reference.found.number c.in-Some-first_reference.ensures
-
-pub returns-in-Some-first_number : goal.returns-in-Some-first_number
-returns-in-Some-first_number c =
-    audits-numbers c.args.tables.now (none-found (IsClaimedOnce c.args.tables.now) c.first_broken.result c.in_default.not-Some c.first_broken.ensures)
-    (none-found (IsRightlyBound c.args.tables.now) c.first_unbound.result c.in_default-first_unbound.not-Some c.first_unbound.ensures)
-    (none-found (IsBalanced c.args.tables.now) c.first_broken-2.result c.in_default-first_broken.not-Some c.first_broken-2.ensures)
-    (unmatched _ c.first_reference.result c.in_default-first_reference.not-Some c.first_reference.ensures)
-    c.in-Some-first_number.found.series c.in-Some-first_number.found.number c.in-Some-first_number.ensures
-
-pub returns : goal.returns
-returns c =
-    audits-sound c.args.tables.now (none-found (IsClaimedOnce c.args.tables.now) c.first_broken.result c.in_default.not-Some c.first_broken.ensures)
-    (none-found (IsRightlyBound c.args.tables.now) c.first_unbound.result c.in_default-first_unbound.not-Some c.first_unbound.ensures)
-    (none-found (IsBalanced c.args.tables.now) c.first_broken-2.result c.in_default-first_broken.not-Some c.first_broken-2.ensures)
-    (unmatched _ c.first_reference.result c.in_default-first_reference.not-Some c.first_reference.ensures)
-    (unmatched _ c.first_number.result c.in_default-first_number.not-Some c.first_number.ensures)
+pub returns-in-None : goal.returns-in-None
+returns-in-None c =
+    audits-end c.args.tables.now c.loop-number.part c.loop-number.invariant (λ n. c.in_default.ensures n refl) c.in-None.ensures

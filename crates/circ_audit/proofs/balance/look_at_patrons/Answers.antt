@@ -7,10 +7,10 @@ use Rattle.circ_audit.proofs.balance.look_at_patrons.Goals as goal
 
 pub loop-row-preserved : goal.loop-row-preserved
 loop-row-preserved c =
-    rows-more c.args.rows.now c.loop-row.row-index c.row-item.result c.args.charges.now c.args.credits.now c.loop-row.look
+    rows-more c.args.after c.args.rows.now c.loop-row.row-index c.row-item.result c.args.charges.now c.args.credits.now c.loop-row.look
     c.look_at.new.look c.loop-row-test.true c.row-item.is
     c.look_at.ensures.broken c.look_at.ensures.next c.loop-row.invariant
 
 pub returns : goal.returns
-returns c = subst (λ (xs : List PatronRow). LooksAtRows xs c.args.charges.now c.args.credits.now c.loop-row.look)
+returns c = subst (λ (xs : List PatronRow). LooksAtRows c.args.after xs c.args.charges.now c.args.credits.now c.loop-row.look)
     (take_all c.loop-row.row-index c.args.rows.now (omega arith)) c.loop-row.invariant

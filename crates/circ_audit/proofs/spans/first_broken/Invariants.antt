@@ -1,9 +1,9 @@
 use Rattle.std.proofs.Common.{ℕ, ◌-◌, ◌<◌}
-use Rattle.circ_audit.specs.Spans.{span_of}
+use Rattle.circ_audit.specs.Spans.{span_of, HoldsAfter}
 use Rattle.circ_audit.proofs.spans.first_broken.Given as goal
 
-abbrev pub invariant-loop-look : goal.invariant-loop-look
-invariant-loop-look g l = (m : ℕ) → span_of m < l.span → g.L.Law.keeps l.tables m
+abbrev pub invariant-loop-after : goal.invariant-loop-after
+invariant-loop-after g l = (m : ℕ) → span_of m < l.span → HoldsAfter l.after (g.L.Law.keeps l.tables) m
 
-abbrev pub decreases-loop-look : goal.decreases-loop-look
-decreases-loop-look g l = 65536 - l.span
+abbrev pub decreases-loop-after : goal.decreases-loop-after
+decreases-loop-after g l = 65536 - l.span

@@ -6,13 +6,13 @@ use Rattle.terms.specs.declared.row.TransitRow.{TransitRow}
 use Rattle.terms.specs.declared.row.CopyRow.{CopyRow}
 use Rattle.circ_audit.specs.Rows.{names, lent_copy, shelved_copy, travelling_copy, absent_copy}
 use Rattle.circ_audit.specs.Sound.{claims_on, IsClaimedOnce}
-use Rattle.circ_audit.specs.Spans.{LooksAt}
+use Rattle.circ_audit.specs.Spans.{HoldsAfter, LooksAt}
 use Rattle.circ_audit.proofs.Counting.{shows-same}
 use Rattle.circ_audit.proofs.claims.ClaimedOnceLaw.look.Goals as goal
 
 pub returns : goal.returns
 returns c =
-    subst (λ (span : ℕ). LooksAt (IsClaimedOnce c.args.tables.now) span c.look.result)
+    subst (λ (span : ℕ). LooksAt (HoldsAfter c.args.after (IsClaimedOnce c.args.tables.now)) span c.look.result)
     (c.tally-4.ensures.span ∙ c.tally-3.ensures.span ∙ c.tally-2.ensures.span ∙ c.tally.ensures.span ∙ c.new-counters.ensures.span)
     (c.look.ensures (claims_on c.args.tables.now)
     (shows-same c.tally-4.new.self _ (claims_on c.args.tables.now) same
