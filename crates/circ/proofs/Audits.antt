@@ -29,7 +29,7 @@ use Rattle.circ_audit.specs.declared.auditing.Finding.{Finding}
 use Rattle.circ_audit.specs.declared.auditing.Finding.TheVariants.{Claims, Binding, Balance, Reference, Numbers}
 use Rattle.circ.specs.declared.lines.Exit.TheVariants.{Done, Refused, Faulted}
 use Rattle.circ.specs.Lines.{sound_line, finding_line, old_row_line, fault_line}
-use Rattle.circ.specs.Auditing.{LegalTablesAreSound, AreSound, IsDoubled, SaysOf, Reads as ReadsTables}
+use Rattle.circ.specs.Auditing.{LegalTablesAreSound, AreSound, IsDoubled, SaysOf, SaysFaulted, Reads as ReadsTables}
 use Rattle.circ.proofs.WholeTables.{sound_as, doubled_as, broken_as}
 
 -- Sound tables break no law.
@@ -41,7 +41,7 @@ not-both tables (Reference table n) sound first = first.3.least.broken (sound.re
 not-both tables (Numbers series n) sound first = first.4.least.broken (sound.numbers series n)
 
 -- No first barcode is doubled where none is.
-not-doubled : (rows : List BarcodeRow) (number : ℕ) → AreDistinct rows → IsFirstDoubled rows number → ⊥
+pub not-doubled : (rows : List BarcodeRow) (number : ℕ) → AreDistinct rows → IsFirstDoubled rows number → ⊥
 not-doubled rows number distinct first =
     let within : first.place < length rows = slice_get_within rows first.place first.row first.there in
     let is : get_or rows first.place first.row ≡ first.row = get_or_from_slice_get rows first.place first.row first.row first.there in
@@ -63,7 +63,7 @@ pub read-left : {A : Type 0} {r : Result A Fault} (old new : State) → Reads ol
 read-left old new reads disk P keeps = λ trees may. keeps.left trees (reads.left disk (keeps.now.maps, keeps.now.holds) trees may)
 
 -- A read after which the database holds what it held leaves it as it was.
-as-read : {A : Type 0} {r : Result A Fault} (old new : State) → Reads old new r → HasCleanDisk new → HasTables old.now → new.now ≡ old.now
+pub as-read : {A : Type 0} {r : Result A Fault} (old new : State) → Reads old new r → HasCleanDisk new → HasTables old.now → new.now ≡ old.now
     → IsAsItWas old new
 as-read old new reads disk tables same = record { now = same; left = λ trees may. inl (reads.left disk tables trees may) }
 
@@ -90,9 +90,9 @@ module _ {S : Type 0} (g : Ghosts S) (old new : Held S) where
         not-both tables finding (law H tables shows.legal shows.forms found.0).laws ((audits.found finding).0 refl);
   }))
 
-  pub says-faulted : (fault : Fault) → Looked InLimits AreAuditTables IsReadable g old new (Err fault)
-      → SaysOf g old new (fault_line (fault_number fault)) Faulted
-  says-faulted fault looked = inr (inr (inr (inr (record {
+  pub faulted : (fault : Fault) → Looked InLimits AreAuditTables IsReadable g old new (Err fault)
+      → SaysFaulted g old new (fault_line (fault_number fault)) Faulted
+  faulted fault looked = record {
     fault = fault;
     line_is = refl;
     exit_is = refl;
@@ -100,7 +100,22 @@ module _ {S : Type 0} (g : Ghosts S) (old new : Held S) where
     sound = λ disk stored H shows. looked.sound disk (let same : Err fault ≡ Err Stored = cc in same) (picture H) shows.tables.now
         (is-readable H shows.legal shows.forms);
     nothing = λ disk is_open had. as-read (state g old) (state g new) looked.reads disk had (looked.reads.same disk is_open had);
-  }))))
+  }
+
+  pub says-faulted : (fault : Fault) → Looked InLimits AreAuditTables IsReadable g old new (Err fault)
+      → SaysOf g old new (fault_line (fault_number fault)) Faulted
+  says-faulted fault looked = inr (inr (inr (inr (faulted fault looked))))
+
+  pub no-memory : (tables : Tables) → Looked InLimits AreAuditTables IsReadable g old new (Ok tables)
+      → SaysFaulted g old new (fault_line (fault_number Memory)) Faulted
+  no-memory tables looked = record {
+    fault = Memory;
+    line_is = refl;
+    exit_is = refl;
+    limits = λ disk stored. let never : ⊥ = cc in absurd never;
+    sound = λ disk stored. let never : ⊥ = cc in absurd never;
+    nothing = λ disk is_open had. as-read (state g old) (state g new) looked.reads disk had (looked.reads.answered disk had);
+  }
 
   module _ (law : LegalTablesAreSound) (tables : Tables) (looked : Looked InLimits AreAuditTables IsReadable g old new (Ok tables))
       (legal : AnswersLegal g old new (Ok tables)) (audits : Audits tables (Ok tt)) where
@@ -125,38 +140,31 @@ module _ {S : Type 0} (g : Ghosts S) (old new : Held S) where
     })))
 
     pub says-no-memory : SaysOf g old new (fault_line (fault_number Memory)) Faulted
-    says-no-memory = inr (inr (inr (inr (record {
-      fault = Memory;
-      line_is = refl;
-      exit_is = refl;
-      limits = λ disk stored. let never : ⊥ = cc in absurd never;
-      sound = λ disk stored. let never : ⊥ = cc in absurd never;
-      nothing = λ disk is_open had. as-read (state g old) (state g new) looked.reads disk had (looked.reads.answered disk had);
-    }))))
+    says-no-memory = inr (inr (inr (inr (no-memory tables looked))))
 
 -- ---- the tables of older schemas, read after those of the laws
 
 -- After a list of accepted requests they are empty.
-none-old : (H : History) (row : OldRow) → IsFirstOldRow (picture H) (Some row) → ⊥
+pub none-old : (H : History) (row : OldRow) → IsFirstOldRow (picture H) (Some row) → ⊥
 none-old H (Rule kind) first = true≢false (sym first.1)
 none-old H (Loan loan) first = true≢false (sym first.1.0)
 none-old H (Hold hold) first = true≢false (sym first.2.0)
 
 -- A read that answered, and then another.
 module _ {A B : Type 0} {x : A} {r : Result B Fault} (a b c : State) (one : Reads a b (Ok x)) (two : Reads b c r) where
-  still : HasCleanDisk c → HasTables a.now → b.now ≡ a.now
+  pub still : HasCleanDisk c → HasTables a.now → b.now ≡ a.now
   still disk had = one.answered (two.clean disk) had
 
-  tables-still : HasCleanDisk c → HasTables a.now → HasTables b.now
+  pub tables-still : HasCleanDisk c → HasTables a.now → HasTables b.now
   tables-still disk had = subst HasTables (sym (still disk had)) had
 
-  none-still : HasCleanDisk c → HasNoOldRows b.now → HasNoOldRows a.now
+  pub none-still : HasCleanDisk c → HasNoOldRows b.now → HasNoOldRows a.now
   none-still disk none = λ maps holds. subst HasNoOldRows (still disk (maps, holds)) none maps holds
 
-  some-still : HasCleanDisk c → HasOldRows b.now → HasOldRows a.now
+  pub some-still : HasCleanDisk c → HasOldRows b.now → HasOldRows a.now
   some-still disk some = λ maps holds. subst HasOldRows (still disk (maps, holds)) some maps holds
 
-  picture-still : HasCleanDisk c → (P : Picture) → HasPicture a.now P → HasPicture b.now P
+  pub picture-still : HasCleanDisk c → (P : Picture) → HasPicture a.now P → HasPicture b.now P
   picture-still disk P shown = subst (λ db. HasPicture db P) (sym (still disk (shown.maps, shown.holds))) shown
 
   pub both-clean : HasCleanDisk c → HasCleanDisk a
@@ -167,10 +175,27 @@ module _ {A B : Type 0} {x : A} {r : Result B Fault} (a b c : State) (one : Read
       let had : HasTables a.now = (keeps.now.maps, keeps.now.holds) in
       keeps.left trees (one.left (two.clean disk) had trees (two.left disk (tables-still disk had) trees may))
 
-  as-both : HasCleanDisk c → HasTables a.now → c.now ≡ b.now → IsAsItWas a c
+  pub as-both : HasCleanDisk c → HasTables a.now → c.now ≡ b.now → IsAsItWas a c
   as-both disk had same = record {
     now = same ∙ still disk had;
     left = λ trees may. inl (one.left (two.clean disk) had trees (two.left disk (tables-still disk had) trees may));
+  }
+
+module _ {S : Type 0} (g : Ghosts S) (old mid new : Held S) (tables : Tables)
+    (looked : Looked InLimits AreAuditTables IsReadable g old mid (Ok tables)) where
+  pub faulted-later : (fault : Fault) → Looked InLimits IsFirstOldRow IsReadable g mid new (Err fault)
+      → SaysFaulted g old new (fault_line (fault_number fault)) Faulted
+  faulted-later fault found = record {
+    fault = fault;
+    line_is = refl;
+    exit_is = refl;
+    limits = λ disk stored P shown. found.sound disk (let same : Err fault ≡ Err Stored = cc in same) P
+        (picture-still (state g old) (state g mid) (state g new) looked.reads found.reads disk P shown);
+    sound = λ disk stored H shows. found.sound disk (let same : Err fault ≡ Err Stored = cc in same) (picture H)
+        (picture-still (state g old) (state g mid) (state g new) looked.reads found.reads disk (picture H) shows.tables.now)
+        (is-readable H shows.legal shows.forms);
+    nothing = λ disk is_open had. as-both (state g old) (state g mid) (state g new) looked.reads found.reads disk had
+        (found.reads.same disk is_open (tables-still (state g old) (state g mid) (state g new) looked.reads found.reads disk had));
   }
 
 module _ {S : Type 0} (g : Ghosts S) (old mid new : Held S) (tables : Tables)
@@ -222,15 +247,4 @@ module _ {S : Type 0} (g : Ghosts S) (old mid new : Held S) (tables : Tables)
 
   pub says-faulted-later : (fault : Fault) → Looked InLimits IsFirstOldRow IsReadable g mid new (Err fault)
       → SaysOf g old new (fault_line (fault_number fault)) Faulted
-  says-faulted-later fault found = inr (inr (inr (inr (record {
-    fault = fault;
-    line_is = refl;
-    exit_is = refl;
-    limits = λ disk stored P shown. found.sound disk (let same : Err fault ≡ Err Stored = cc in same) P
-        (picture-still (state g old) (state g mid) (state g new) looked.reads found.reads disk P shown);
-    sound = λ disk stored H shows. found.sound disk (let same : Err fault ≡ Err Stored = cc in same) (picture H)
-        (picture-still (state g old) (state g mid) (state g new) looked.reads found.reads disk (picture H) shows.tables.now)
-        (is-readable H shows.legal shows.forms);
-    nothing = λ disk is_open had. as-both (state g old) (state g mid) (state g new) looked.reads found.reads disk had
-        (found.reads.same disk is_open (tables-still (state g old) (state g mid) (state g new) looked.reads found.reads disk had));
-  }))))
+  says-faulted-later fault found = inr (inr (inr (inr (faulted-later g old mid new tables looked fault found))))

@@ -1,6 +1,7 @@
 -- All rows of the tables keep or break a law just as the rows that it concerns.
-use Rattle.std.proofs.Common.{◌≡◌, ℕ, true, List, refl, sym, ◌∙◌, ap, subst}
+use Rattle.std.proofs.Common.{◌≡◌, ◌⊎◌, ◌-◌, ℕ, true, List, length, get_or, inl, inr, refl, sym, ◌∙◌, ap, subst}
 use Rattle.std.proofs.lemmas.List.Elements.{All-contains}
+use Rattle.std.specs.Prelude.{Contains}
 use Rattle.circ_tables.specs.Barcodes.{barcodes}
 use Rattle.circ_tables.specs.Cells.{thing_sort, thing_number}
 use Rattle.circ_tables.specs.ClosedDays.{closed_days}
@@ -16,7 +17,9 @@ use Rattle.terms.specs.declared.row.KeptRow.{KeptRow}
 use Rattle.terms.specs.declared.tables.Tables.{Tables}
 use Rattle.circ_audit.specs.declared.auditing.Finding.{Finding}
 use Rattle.circ_audit.specs.declared.auditing.Finding.TheVariants.{Claims, Binding, Balance, Reference, Numbers}
-use Rattle.circ_audit.specs.Barcodes.{AreDistinct, IsFirstDoubled}
+use Rattle.circ_audit.specs.Barcodes.{AreDistinct, IsFirstDoubled, AreDoubled}
+use Rattle.circ_audit.specs.Findings.{Keeps, AreFindings, IsLeftOut}
+use Rattle.circ_audit.specs.declared.auditing.TheConstants.{MOST_FINDINGS}
 use Rattle.circ_audit.specs.Sound.{IsSound, IsFirstBroken, IsLeastBroken, IsFirstAmong, IsClaimedOnce, IsRightlyBound, IsBalanced}
 use Rattle.circ_audit.specs.Numbers.{IsNumbered, place_of_series}
 use Rattle.circ_audit.specs.References.{has_caller, kept_refers, IsReferred, place_of_table}
@@ -24,7 +27,7 @@ use Rattle.circ_audit.specs.declared.numbers.Series.{Series}
 use Rattle.circ_audit.specs.declared.numbers.Series.TheVariants as series
 use Rattle.circ_audit.specs.declared.references.Table.{Table}
 use Rattle.circ_audit.specs.declared.references.Table.TheVariants as table
-use Rattle.circ.specs.Auditing.{AreSound, IsDoubled}
+use Rattle.circ.specs.Auditing.{AreSound, IsDoubled, AreAllFindings}
 use Rattle.circ.proofs.CountedRows.{all-there}
 
 -- The tables with other rows of `kept`.
@@ -128,6 +131,34 @@ module _ (t : Tables) (kept : List KeptRow) (kept_with : (n : ℕ) → IsReferre
     among_with place_of_series numbered_with numbered_from s n first.4,
   )
 
+  keeps_with : (finding : Finding) → Keeps t finding → Keeps (with_kept t kept) finding
+  keeps_with (Claims copy) is = is
+  keeps_with (Binding hold) is = bound_with hold is
+  keeps_with (Balance patron) is = is
+  keeps_with (Reference s n) is = referred_with s n is
+  keeps_with (Numbers s n) is = numbered_with s n is
+
+  keeps_from : (finding : Finding) → Keeps (with_kept t kept) finding → Keeps t finding
+  keeps_from (Claims copy) is = is
+  keeps_from (Binding hold) is = bound_from hold is
+  keeps_from (Balance patron) is = is
+  keeps_from (Reference s n) is = referred_from s n is
+  keeps_from (Numbers s n) is = numbered_from s n is
+
+  findings_with : (found : List Finding) → AreFindings t found → AreFindings (with_kept t kept) found
+  findings_with found are = record {
+    broken = λ k d within keeps. are.broken k d within (keeps_from (get_or found k d) keeps);
+    ordered = are.ordered;
+    few = are.few;
+    among = are.among;
+    every = λ finding any. other finding (are.every finding any);
+  }
+    where
+      other : (finding : Finding) → Keeps t finding ⊎ (Contains found finding ⊎ IsLeftOut found finding)
+          → Keeps (with_kept t kept) finding ⊎ (Contains found finding ⊎ IsLeftOut found finding)
+      other finding (inl keeps) = inl (keeps_with finding keeps)
+      other finding (inr listed) = inr listed
+
 module _ (P : Picture) (all some : Tables) (whole : AreTables P all) (are : AreAuditTables P some) where
   rows_are : with_kept some all.kept ≡ all
   rows_are = λ i. record {
@@ -180,3 +211,9 @@ module _ (P : Picture) (all some : Tables) (whole : AreTables P all) (are : AreA
 
   pub broken_as : (finding : Finding) → IsFirstBroken some finding → IsFirstBroken all finding
   broken_as finding first = subst (λ t. IsFirstBroken t finding) rows_are (broken_with some all.kept kept_with kept_from finding first)
+
+  pub findings_as : (broken : List Finding) (doubled : List ℕ) → AreAllFindings broken doubled some → AreAllFindings broken doubled all
+  findings_as broken doubled are = record {
+    laws = subst (λ t. AreFindings t broken) rows_are (findings_with some all.kept kept_with kept_from broken are.laws);
+    barcodes = subst (λ t. AreDoubled t.barcodes (MOST_FINDINGS - length broken) doubled) rows_are are.barcodes;
+  }

@@ -45,6 +45,7 @@ run_words (run.Import path copies) = codes "import" ∷ path.now ∷ copies.now 
 run_words (run.Check copies) = codes "import" ∷ codes "--check" ∷ copies.now ∷ []
 run_words (run.Report path report) = codes "report" ∷ path.now ∷ report_words report
 run_words (run.Audit path) = codes "audit" ∷ path.now ∷ []
+run_words (run.AuditAll path) = codes "audit" ∷ path.now ∷ codes "all" ∷ []
 run_words (run.Migrate path) = codes "migrate" ∷ path.now ∷ []
 run_words (run.Serve path port workers each keys) =
     codes "serve" ∷ path.now ∷ decimal port ∷ decimal workers ∷ decimal each ∷ keys_word keys ∷ []
@@ -77,6 +78,7 @@ HasForms (run.Import path copies) = path.now ≢ codes "--check"
 HasForms (run.Check copies) = Unit {0}
 HasForms (run.Report path report) = HasArgument report
 HasForms (run.Audit path) = Unit {0}
+HasForms (run.AuditAll path) = Unit {0}
 HasForms (run.Migrate path) = Unit {0}
 HasForms (run.Serve path port workers each keys) =
     IsPort port × IsWorkers workers × IsEach each × HaveForm keys

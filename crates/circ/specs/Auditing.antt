@@ -1,5 +1,5 @@
 -- What an audit of a library writes, and how the program ends.
-use Rattle.std.specs.Prelude.{◌≡◌, ◌⊎◌, ℕ, List, Option, Some, Result, IfOk, OnErr}
+use Rattle.std.specs.Prelude.{◌≡◌, ◌⊎◌, ◌+◌, ◌-◌, ◌<◌, ℕ, Bool, true, false, List, length, nat_lt, if◌then◌else◌, Option, Some, None, MatchOption, Result, IfOk, MatchResult, OnErr}
 use Rattle.std.specs.Io.KnownBytes.{Appends}
 use Rattle.store.specs.Library.{Ghosts, Held, state, IsClean, IsOpen, HasTables, IsAsItWas}
 use Rattle.circ_tables.specs.Encoding.{HasPicture}
@@ -21,14 +21,17 @@ use Rattle.model.specs.Picture.{picture}
 use Rattle.model.specs.Forms.{HasForms}
 use Rattle.model.specs.Requests.{IsLegal}
 use Rattle.desk.specs.Answering.{Shows}
-use Rattle.circ_audit.specs.Barcodes.{AreDistinct, IsFirstDoubled}
+use Rattle.circ_audit.specs.Barcodes.{AreDistinct, IsFirstDoubled, AreDoubled}
+use Rattle.circ_audit.specs.Findings.{AreFindings}
 use Rattle.circ_audit.specs.Sound.{IsSound, IsFirstBroken}
 use Rattle.circ_audit.specs.declared.auditing.Finding.{Finding}
 use Rattle.circ_audit.specs.declared.auditing.Finding.TheVariants.{Reference}
+use Rattle.circ_audit.specs.declared.auditing.TheConstants.{MOST_FINDINGS}
 use Rattle.circ_audit.specs.declared.references.Table.TheVariants.{Barcodes}
+use Rattle.circ.specs.declared.auditing.Findings.{Findings}
 use Rattle.circ.specs.declared.lines.Exit.{Exit}
 use Rattle.circ.specs.declared.lines.Exit.TheVariants.{Done, Refused, Faulted}
-use Rattle.circ.specs.Lines.{sound_line, finding_line, old_row_line, fault_line}
+use Rattle.circ.specs.Lines.{sound_line, finding_line, old_row_line, fault_line, is_nothing, all_lines, all_exit}
 
 -- The rows keep the five laws, and no two things have the same barcode.
 pub record AreSound (rows : Tables) : Type 0 where
@@ -145,3 +148,74 @@ pub record SaysAudit {S E : Type 0} (g : Ghosts S) (old new : Held S)
   pub cut : OnErr result
       ((line : List ℕ) × (exit : Exit) × SaysOf g old new line exit
       × AppendsFront before after line)
+
+-- ---- an audit that goes on to its end
+
+-- All numbers for which the rows break a law, and all things with the barcode of one before them: of both the first
+-- ones, as many as may be told.
+pub record AreAllFindings (broken : List Finding) (doubled : List ℕ) (rows : Tables) : Type 0 where
+  pub laws : AreFindings rows broken
+  pub barcodes : AreDoubled rows.barcodes (MOST_FINDINGS - length broken) doubled
+
+-- There is room for one line more.
+abbrev pub HasRoom : Findings → Type 0
+HasRoom found = length found.broken.items + length found.doubled.items < MOST_FINDINGS
+
+-- A row in a table of older schemas is told, if there is room for it.
+abbrev pub told_row : ℕ → Option OldRow → Option OldRow
+told_row lines old = if nat_lt lines MOST_FINDINGS then old else None
+
+-- This was found: all findings of the rows that the laws concern, and the first row in a table of older schemas. No row
+-- of the thirteen tables is damaged, and nothing is changed. Nothing is found if the tables showed a list of accepted
+-- requests.
+pub record FindsAll {S : Type 0} (g : Ghosts S) (old new : Held S) (found : Findings) : Type 0 where
+  pub tables : Tables
+  pub legal : IsClean g new → HasLegalRows (state g old).now
+  pub read : Reads g old new (AreAllFindings found.broken.items found.doubled.items) tables
+  -- whether there is such a row, whatever the tables show, and which, if they show a picture
+  pub stands : HasRoom found → IsClean g new
+      → MatchOption found.old (HasNoOldRows (state g old).now) (λ row. HasOldRows (state g old).now)
+  pub first : HasRoom found → IsClean g new → (P : Picture) → InLimits P → HasPicture (state g old).now P
+      → IsFirstOldRow P found.old
+  pub nothing : IsClean g new → HasTables (state g old).now → IsAsItWas (state g old) (state g new)
+  pub never : IsClean g new → (H : History) → Shows (state g old) H
+      → is_nothing found.broken.items found.doubled.items found.old ≡ true
+
+-- All was found, or a fault came.
+pub record Searches {S : Type 0} (g : Ghosts S) (old new : Held S) (result : Result Findings Fault) : Type 0 where
+  pub clean : IsClean g new → IsClean g old
+  pub finds : MatchResult result (FindsAll g old new)
+      (λ fault. SaysFaulted g old new (fault_line (fault_number fault)) Faulted)
+  pub left : IsClean g new → (P : Picture) → KeepsPicture (state g old) P
+      → LeavesPicture (state g new) P
+
+-- The lines are all that was found, which is something.
+pub record SaysAllUnsound {S : Type 0} (g : Ghosts S) (old new : Held S) (found : Findings)
+    (lines : List ℕ) (exit : Exit) : Type 0 where
+  pub finds : FindsAll g old new found
+  pub some : is_nothing found.broken.items found.doubled.items found.old ≡ false
+  pub lines_are : lines ≡ all_lines found.broken.items found.doubled.items found.old
+  pub exit_is : exit ≡ Refused
+  pub never : IsClean g new → (H : History) → Shows (state g old) H → ⊥
+
+-- Where all was found, the line says that the tables are sound, as that of an audit that ends at the first finding, or
+-- the lines are all findings. Else the line is a fault.
+abbrev pub SaysAllOf : {S : Type 0} → Ghosts S → Held S → Held S → Option Findings → List ℕ → Exit → Type 0
+SaysAllOf g old new (Some found) lines exit =
+    SaysSound g old new lines exit ⊎ SaysAllUnsound g old new found lines exit
+SaysAllOf g old new None lines exit = SaysFaulted g old new lines exit
+
+-- A library was audited to the end, this was found, and its lines were written.
+pub record SaysAuditAll {S E : Type 0} (g : Ghosts S) (old new : Held S) (found : Option Findings)
+    (before after : Option (List ℕ)) (result : Result Exit E) : Type 0 where
+  pub clean : IsClean g new → IsClean g old
+  -- the lines went out
+  pub written : IfOk result
+      (λ exit. (lines : List ℕ) × SaysAllOf g old new found lines exit × Appends before after lines)
+  -- a stop leaves what was there
+  pub left : IsClean g new → (P : Picture) → KeepsPicture (state g old) P
+      → LeavesPicture (state g new) P
+  -- if a write failed, a beginning of the lines went out
+  pub cut : OnErr result
+      ((lines : List ℕ) × (exit : Exit) × SaysAllOf g old new found lines exit
+      × AppendsFront before after lines)

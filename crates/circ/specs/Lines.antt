@@ -1,5 +1,5 @@
 -- The lines that the programs write, each with its newline.
-use Rattle.std.specs.Prelude.{◌≡◌, ℕ, List, [], ◌∷◌, ◌++◌, Option, Result, IfOk, codes, decimal}
+use Rattle.std.specs.Prelude.{◌≡◌, ◌==◌, ◌&&◌, ℕ, Bool, if◌then◌else◌, List, [], ◌∷◌, ◌++◌, length, flat_map, Option, Some, None, is_none, Result, IfOk, codes, decimal}
 use Rattle.std.specs.Io.KnownBytes.{Appends}
 use Rattle.terms.specs.Writing.{Writes}
 use Rattle.terms.specs.declared.reply.Reply.{Reply}
@@ -7,6 +7,7 @@ use Rattle.terms.specs.Texts.{reply_text}
 use Rattle.terms.specs.declared.limits.TheConstants.{SCHEMA}
 use Rattle.circ_audit.specs.declared.auditing.Finding.{Finding}
 use Rattle.circ_audit.specs.declared.auditing.Finding.TheVariants.{Claims, Binding, Balance, Reference, Numbers}
+use Rattle.circ_audit.specs.Findings.{number_of}
 use Rattle.circ_audit.specs.declared.numbers.Series.{Series}
 use Rattle.circ_audit.specs.declared.numbers.Series.TheVariants as series
 use Rattle.circ_audit.specs.declared.references.Table.{Table}
@@ -14,6 +15,7 @@ use Rattle.circ_audit.specs.declared.references.Table.TheVariants as table
 use Rattle.store.specs.declared.older.OldRow.{OldRow}
 use Rattle.store.specs.declared.older.OldRow.TheVariants.{Rule, Loan, Hold}
 use Rattle.circ.specs.declared.lines.Exit.{Exit}
+use Rattle.circ.specs.declared.lines.Exit.TheVariants.{Done, Refused}
 
 -- A reply is its text.
 abbrev pub reply_line : Reply → List ℕ
@@ -75,19 +77,58 @@ number_words series.Loans = codes "numbers loans3 "
 number_words series.Holds = codes "numbers holds2 "
 number_words series.Lines = codes "numbers lines "
 
+-- The law of a finding.
+abbrev pub law_words : Finding → List ℕ
+law_words (Claims copy) = codes "claims "
+law_words (Binding hold) = codes "binding "
+law_words (Balance patron) = codes "balance "
+law_words (Reference table n) = reference_words table
+law_words (Numbers series n) = number_words series
+
 -- An audit's finding: the law and the number.
 abbrev pub finding_line : Finding → List ℕ
-finding_line (Claims copy) = unsound_line (codes "claims ") copy
-finding_line (Binding hold) = unsound_line (codes "binding ") hold
-finding_line (Balance patron) = unsound_line (codes "balance ") patron
-finding_line (Reference table n) = unsound_line (reference_words table) n
-finding_line (Numbers series n) = unsound_line (number_words series) n
+finding_line finding = unsound_line (law_words finding) (number_of finding)
 
--- A row in a table of older schemas: the table, as SQL names it, and the last number of the row's key.
+-- The law of a row in a table of older schemas: the table, as SQL names it.
+abbrev pub old_words : OldRow → List ℕ
+old_words (Rule kind) = codes "numbers rules "
+old_words (Loan loan) = codes "numbers loans "
+old_words (Hold hold) = codes "numbers holds "
+
+-- The last number of the row's key.
+abbrev pub old_number : OldRow → ℕ
+old_number (Rule kind) = kind
+old_number (Loan loan) = loan
+old_number (Hold hold) = hold
+
 abbrev pub old_row_line : OldRow → List ℕ
-old_row_line (Rule kind) = unsound_line (codes "numbers rules ") kind
-old_row_line (Loan loan) = unsound_line (codes "numbers loans ") loan
-old_row_line (Hold hold) = unsound_line (codes "numbers holds ") hold
+old_row_line row = unsound_line (old_words row) (old_number row)
+
+-- The same of findings, one after another; of the things with the barcode of another one before; and of a row in a
+-- table of older schemas, if there is one.
+abbrev pub finding_lines : List Finding → List ℕ
+finding_lines broken = flat_map finding_line broken
+
+abbrev pub doubled_lines : List ℕ → List ℕ
+doubled_lines doubled = flat_map (λ n. finding_line (Reference table.Barcodes n)) doubled
+
+abbrev pub old_lines : Option OldRow → List ℕ
+old_lines None = []
+old_lines (Some row) = old_row_line row
+
+-- Nothing was found.
+abbrev pub is_nothing : List Finding → List ℕ → Option OldRow → Bool
+is_nothing broken doubled old = (length broken == 0) && ((length doubled == 0) && is_none old)
+
+-- The lines of an audit that goes on to its end, by what it found, and how the program ends after them.
+abbrev pub all_lines : List Finding → List ℕ → Option OldRow → List ℕ
+all_lines broken doubled old =
+    if is_nothing broken doubled old
+    then sound_line
+    else (finding_lines broken ++ doubled_lines doubled) ++ old_lines old
+
+abbrev pub all_exit : List Finding → List ℕ → Option OldRow → Exit
+all_exit broken doubled old = if is_nothing broken doubled old then Done else Refused
 
 -- The first bytes went out, then the others.
 abbrev pub AppendsBoth : Option (List ℕ) → Option (List ℕ) → List ℕ → List ℕ → Type 0

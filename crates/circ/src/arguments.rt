@@ -50,6 +50,10 @@ pub enum Run<'a> {
     Audit {
         path: &'a str,
     },
+    /// `audit FILE all`: the same to the end, with all findings.
+    AuditAll {
+        path: &'a str,
+    },
     /// `migrate FILE`: bring a library to the newest schema.
     Migrate {
         path: &'a str,
@@ -80,6 +84,7 @@ impl<'a> Run<'a> {
             | Run::Import { path, .. }
             | Run::Report { path, .. }
             | Run::Audit { path }
+            | Run::AuditAll { path }
             | Run::Migrate { path }
             | Run::Serve { path, .. } => Some(*path),
             Run::Check { .. } | Run::Send { .. } => None,
@@ -212,17 +217,23 @@ fn read_report_run<'a>(words: &'a [String]) -> Option<Run<'a>>
     })
 }
 
-/// Reads an audit: exactly one path.
+/// The word behind a library's path if an audit goes on to all findings.
+const ALL: &str = "all";
+
+/// Reads an audit: exactly one path, or a path and the word for all findings.
 fn read_audit_run<'a>(words: &'a [String]) -> Option<Run<'a>>
     ensures { let asked = codes "audit" ∷ texts_of words.now in
         MatchOption result (IsNoRun asked) (IsRun asked) }
 {
-    let [path] = words else {
-        return None;
-    };
-    Some(Run::Audit {
-        path: path.as_str(),
-    })
+    match words {
+        [path] => Some(Run::Audit {
+            path: path.as_str(),
+        }),
+        [path, all] if all.as_str() == ALL => Some(Run::AuditAll {
+            path: path.as_str(),
+        }),
+        _ => None,
+    }
 }
 
 /// Reads a migration: exactly one path.
@@ -434,6 +445,7 @@ pub fn wrong_argument(alloc: Global, words: &[String]) -> Result<Option<WrongArg
     match (run.as_str(), words) {
         ("file", [_, key, _, ..]) => wrong_key(alloc, key.as_str()),
         ("report", [_, name, argument]) => Ok(wrong_report(name.as_str(), argument.as_str())),
+        ("audit", [_, _]) => Ok(Some(other("the word after LIBRARY", "all"))),
         ("serve", [_, port, workers, each, keys]) => wrong_serve(
             alloc,
             port.as_str(),

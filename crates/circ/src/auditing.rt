@@ -1,13 +1,17 @@
 //! Auditing a library.
 
+ghost use Rattle.std.specs.Prelude.{◌≡◌};
 ghost use Rattle.circ.specs.Auditing.{LegalTablesAreSound, SaysAudit};
+ghost use Rattle.circ.specs.Auditing.{told_row, Searches, SaysAuditAll};
 
-use crate::lines::{Exit, WriteFault, tell_fault, tell_finding, tell_old_row, tell_sound};
-use circ_audit::{Finding, Table, doubled_barcode};
+use crate::lines::{
+    Exit, WriteFault, tell_all, tell_fault, tell_finding, tell_old_row, tell_sound,
+};
+use circ_audit::{Finding, MOST_FINDINGS, Table, doubled_barcode, doubled_barcodes};
 use sqlite::Alter;
 use std::alloc::Global;
 use std::io::Write;
-use store::Store;
+use store::{OldRow, Store};
 use terms::Fault;
 
 /// The audited rows of tables left by a list of accepted requests keep the laws of sound tables.
@@ -56,5 +60,86 @@ pub fn audit<S: Alter, W: Write>(
         Ok(None) => tell_sound(writer),
         Ok(Some(row)) => tell_old_row(writer, row),
         Err(fault) => tell_fault(writer, fault),
+    }
+}
+
+/// What an audit that goes on to its end found.
+#[derive(Drop)]
+pub struct Findings {
+    /// The numbers for which a law fails, in the order of the audit.
+    pub broken: Vec<Finding>,
+    /// The patrons and copies, patrons before copies, with the barcode of another one before.
+    pub doubled: Vec<u32>,
+    /// The first row in a table of older schemas.
+    pub old: Option<OldRow>,
+}
+
+/// Returns the row, if a line can be told after so many others.
+fn told_row(lines: usize, old: Option<OldRow>) -> Option<OldRow>
+    ensures { result ≡ told_row lines old }
+{
+    if lines < MOST_FINDINGS { old } else { None }
+}
+
+/// Reads the tables, and finds all that an audit tells.
+fn find_all<S: Alter>(store: &mut Store<S>, alloc: Global) -> Result<Findings, Fault>
+    ensures { Searches S.Store store.old store.new result }
+{
+    legal_tables_are_sound();
+    let tables = match store.audit_tables(alloc) {
+        Ok(tables) => tables,
+        Err(fault) => return Err(fault),
+    };
+    let broken = match circ_audit::audit_all(alloc, &tables) {
+        Ok(broken) => broken,
+        Err(_) => return Err(Fault::Memory),
+    };
+    let doubled = match doubled_barcodes(alloc, &tables, MOST_FINDINGS - broken.len()) {
+        Ok(doubled) => doubled,
+        Err(_) => return Err(Fault::Memory),
+    };
+    match store.old_row(alloc) {
+        Ok(row) => {
+            let old = told_row(broken.len() + doubled.len(), row);
+            Ok(Findings {
+                broken,
+                doubled,
+                old,
+            })
+        }
+        Err(fault) => Err(fault),
+    }
+}
+
+/// Audits a library to its end and returns what it found. Writes `sound`; or the line of each number
+/// for which a law fails, as `audit` writes the first, in the order of the laws, of their tables and
+/// of the numbers, then of each thing with the barcode of another one before it, then of the first
+/// row in a table of older schemas, but no more than 1,000 lines; or `fault N`. Changes nothing.
+///
+/// Reads what `audit` reads, and the tables of older schemas whatever else is found. A law's rows are
+/// looked at again after each finding, in memory.
+///
+/// `specs/Auditing` states the lines, the exit and what the tables show. If they show a list of
+/// accepted requests, the line is `sound` or a fault other than 93. If a write fails, a prefix of
+/// the lines went out.
+pub fn audit_all<S: Alter, W: Write>(
+    store: &mut Store<S>,
+    alloc: Global,
+    writer: &mut W,
+) -> (Option<Findings>, Result<Exit, WriteFault>)
+    ensures { SaysAuditAll S.Store store.old store.new result.0
+        (W.contents writer.old) (W.contents writer.new) result.1 }
+{
+    match find_all(store, alloc) {
+        Ok(found) => {
+            let told = tell_all(
+                writer,
+                found.broken.as_slice(),
+                found.doubled.as_slice(),
+                &found.old,
+            );
+            (Some(found), told)
+        }
+        Err(fault) => (None, tell_fault(writer, fault)),
     }
 }

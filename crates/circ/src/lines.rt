@@ -1,6 +1,6 @@
 //! Output lines and exit statuses.
 
-ghost use Rattle.std.specs.Prelude.{◌≡◌};
+ghost use Rattle.std.specs.Prelude.{◌≡◌, ◌++◌};
 ghost use Rattle.terms.specs.Texts.{fault_number, service_fault_number};
 ghost use Rattle.terms.specs.declared.fault.Fault.TheVariants.{Memory};
 ghost use Rattle.circ.specs.Exits.{status_of, exit_of};
@@ -8,6 +8,10 @@ ghost use Rattle.circ.specs.Lines.{reply_line, fault_line, not_understood_line};
 ghost use Rattle.circ.specs.Lines.{no_network_line, port_line, threads_line, EndsWith};
 ghost use Rattle.circ.specs.Lines.{schema_line, sound_line, unsound_line, finding_line};
 ghost use Rattle.circ.specs.Lines.{old_row_line, no_keys_line, reference_words, number_words};
+ghost use Rattle.circ.specs.Lines.{law_words, old_words, old_number};
+ghost use Rattle.circ.specs.Lines.{finding_lines, doubled_lines, old_lines, is_nothing};
+ghost use Rattle.circ_audit.specs.Findings.{number_of};
+ghost use Rattle.circ.specs.Lines.{all_lines, all_exit};
 ghost use Rattle.terms.specs.Writing.{Writes};
 
 use crate::writing::write_reply;
@@ -215,17 +219,59 @@ fn number_words(series: Series) -> &'static [u8]
     }
 }
 
+/// Returns the words of the law that a finding breaks.
+pub fn law_words(finding: &Finding) -> &'static [u8]
+    ensures { result.now ≡ law_words finding.now }
+{
+    match finding {
+        Finding::Claims(_) => b"claims ",
+        Finding::Binding(_) => b"binding ",
+        Finding::Balance(_) => b"balance ",
+        Finding::Reference(table, _) => reference_words(*table),
+        Finding::Numbers(series, _) => number_words(*series),
+    }
+}
+
+/// Returns the number that a finding is of.
+pub fn number_of(finding: &Finding) -> u32
+    ensures { result ≡ number_of finding.now }
+{
+    match finding {
+        Finding::Claims(copy) => copy.number(),
+        Finding::Binding(hold) => hold.number(),
+        Finding::Balance(patron) => patron.number(),
+        Finding::Reference(_, number) => *number,
+        Finding::Numbers(_, number) => *number,
+    }
+}
+
 /// Writes the finding of an audit. Takes no memory.
 pub(crate) fn tell_finding<W: Write>(writer: &mut W, finding: Finding) -> Result<Exit, WriteFault>
     ensures { EndsWith Exit.Refused (finding_line finding)
         (W.contents writer.old) (W.contents writer.new) result }
 {
-    match finding {
-        Finding::Claims(copy) => tell_unsound(writer, b"claims ", copy.number()),
-        Finding::Binding(hold) => tell_unsound(writer, b"binding ", hold.number()),
-        Finding::Balance(patron) => tell_unsound(writer, b"balance ", patron.number()),
-        Finding::Reference(table, number) => tell_unsound(writer, reference_words(table), number),
-        Finding::Numbers(series, number) => tell_unsound(writer, number_words(series), number),
+    tell_unsound(writer, law_words(&finding), number_of(&finding))
+}
+
+/// Returns the words of the law that a row in a table of older schemas breaks.
+pub fn old_words(row: &OldRow) -> &'static [u8]
+    ensures { result.now ≡ old_words row.now }
+{
+    match row {
+        OldRow::Rule(_) => b"numbers rules ",
+        OldRow::Loan(_) => b"numbers loans ",
+        OldRow::Hold(_) => b"numbers holds ",
+    }
+}
+
+/// Returns the last number of its key.
+pub fn old_number(row: &OldRow) -> u32
+    ensures { result ≡ old_number row.now }
+{
+    match row {
+        OldRow::Rule(kind) => kind.number(),
+        OldRow::Loan(loan) => loan.number(),
+        OldRow::Hold(hold) => hold.number(),
     }
 }
 
@@ -234,9 +280,77 @@ pub(crate) fn tell_old_row<W: Write>(writer: &mut W, row: OldRow) -> Result<Exit
     ensures { EndsWith Exit.Refused (old_row_line row)
         (W.contents writer.old) (W.contents writer.new) result }
 {
-    match row {
-        OldRow::Rule(kind) => tell_unsound(writer, b"numbers rules ", kind.number()),
-        OldRow::Loan(loan) => tell_unsound(writer, b"numbers loans ", loan.number()),
-        OldRow::Hold(hold) => tell_unsound(writer, b"numbers holds ", hold.number()),
+    tell_unsound(writer, old_words(&row), old_number(&row))
+}
+
+/// Writes the lines of findings. Takes no memory.
+fn write_findings<W: Write>(writer: &mut W, broken: &[Finding]) -> Result<(), WriteFault>
+    ensures { Writes (finding_lines broken.now) (W.contents writer.old) (W.contents writer.new) result }
+{
+    for finding in broken {
+        tell_finding(writer, *finding)?;
     }
+    Ok(())
+}
+
+/// Writes the lines of patrons and copies with the barcode of another one before. Takes no memory.
+fn write_doubled<W: Write>(writer: &mut W, doubled: &[u32]) -> Result<(), WriteFault>
+    ensures { Writes (doubled_lines doubled.now) (W.contents writer.old) (W.contents writer.new) result }
+{
+    for thing in doubled {
+        tell_finding(writer, Finding::Reference(Table::Barcodes, *thing))?;
+    }
+    Ok(())
+}
+
+/// Writes the lines of both. Takes no memory.
+fn write_all_broken<W: Write>(
+    writer: &mut W,
+    broken: &[Finding],
+    doubled: &[u32],
+) -> Result<(), WriteFault>
+    ensures { Writes (finding_lines broken.now ++ doubled_lines doubled.now)
+        (W.contents writer.old) (W.contents writer.new) result }
+{
+    write_findings(writer, broken)?;
+    write_doubled(writer, doubled)
+}
+
+/// Writes the line of a row in a table of older schemas, if there is one. Takes no memory.
+fn write_old<W: Write>(writer: &mut W, old: &Option<OldRow>) -> Result<(), WriteFault>
+    ensures { Writes (old_lines old.now) (W.contents writer.old) (W.contents writer.new) result }
+{
+    match old {
+        None => write_bytes(writer, b""),
+        Some(row) => match tell_old_row(writer, *row) {
+            Ok(_) => Ok(()),
+            Err(fault) => Err(fault),
+        },
+    }
+}
+
+/// Returns whether nothing was found.
+fn is_nothing(broken: &[Finding], doubled: &[u32], old: &Option<OldRow>) -> bool
+    ensures { result ≡ is_nothing broken.now doubled.now old.now }
+{
+    broken.is_empty() && doubled.is_empty() && old.is_none()
+}
+
+/// Writes the lines of all that an audit found, or that the tables are sound. Takes no memory.
+pub(crate) fn tell_all<W: Write>(
+    writer: &mut W,
+    broken: &[Finding],
+    doubled: &[u32],
+    old: &Option<OldRow>,
+) -> Result<Exit, WriteFault>
+    ensures { EndsWith (all_exit broken.now doubled.now old.now)
+        (all_lines broken.now doubled.now old.now)
+        (W.contents writer.old) (W.contents writer.new) result }
+{
+    if is_nothing(broken, doubled, old) {
+        return tell_sound(writer);
+    }
+    write_all_broken(writer, broken, doubled)?;
+    write_old(writer, old)?;
+    Ok(Exit::Refused)
 }

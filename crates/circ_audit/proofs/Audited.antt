@@ -58,6 +58,7 @@ last-table table.Loans = omega arith
 last-table table.Holds = omega arith
 last-table table.Transits = omega arith
 last-table table.Lines = omega arith
+last-table table.Kept = omega arith
 last-table table.Barcodes = omega arith
 last-table table.Notes = omega arith
 

@@ -28,7 +28,8 @@ fn doubled_in(alloc: Global, rows: &[BarcodeRow], most: usize) -> Result<Vec<u32
         if found.len() == most {
             return Ok(found);
         }
-        let before = seen.insert(row.barcode.as_str(), ())?;
+        let barcode = row.barcode.as_str();
+        let before = seen.insert(barcode, ())?;
         add_doubled(&mut found, before.is_some(), row.thing.number())?;
     }
     Ok(found)

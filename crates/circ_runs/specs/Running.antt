@@ -24,7 +24,8 @@ use Rattle.circ.specs.Saying.{SaysLine}
 use Rattle.circ.specs.Importing.{Imports, import_lines, end_line}
 use Rattle.circ.specs.Checking.{Checks, check_lines}
 use Rattle.circ.specs.Reporting.{TellsAnyReport}
-use Rattle.circ.specs.Auditing.{SaysAudit}
+use Rattle.circ.specs.Auditing.{SaysAudit, SaysAuditAll}
+use Rattle.circ.specs.declared.auditing.Findings.{Findings}
 use Rattle.circ.specs.Migrating.{SaysMigration}
 use Rattle.circ.specs.declared.serving.Web.{Web}
 use Rattle.circ.specs.declared.arguments.DeskKeys.{DeskKeys}
@@ -84,12 +85,17 @@ module _ {S C : Type 0} (g : Ghosts S) (remaining : C → Option (List ℕ)) (ou
       ((listener : TcpListener) × outside.listens web.port listener × serves web workers old new before after result)
       ⊎ (outside.deaf web.port × (new ≡ old) × EndsWith Faulted no_network_line before after result)
 
+  -- The library was audited to the end, and what was found was told.
+  abbrev pub AuditsAll : Doing S
+  AuditsAll old new before after result = (found : Option Findings) × SaysAuditAll g old new found before after result
+
   -- The work at a desk.
   abbrev pub DoesAtDesk : DeskWork → Doing S
   DoesAtDesk (work.Request key words) old new = SaysLine key (texts_of words.now) g old new
   DoesAtDesk (work.Import copies) old new = ImportsFrom copies.now old new
   DoesAtDesk (work.Report report) old new = TellsAnyReport report g old new
   DoesAtDesk work.Audit old new = SaysAudit g old new
+  DoesAtDesk work.AuditAll old new = AuditsAll old new
   DoesAtDesk (work.Serve path workers web) old new = ServesAt web workers old new
 
   -- A desk was made on the library, and did its work; or there can be none, and the fault is told.
@@ -138,6 +144,7 @@ module _ {S C : Type 0} (g : Ghosts S) (remaining : C → Option (List ℕ)) (ou
   Runs (run.Check copies) = ChecksFrom copies.now
   Runs (run.Report path report) = WorksIn path.now Refused (Desk (work.Report report))
   Runs (run.Audit path) = WorksIn path.now Refused (Desk work.Audit)
+  Runs (run.AuditAll path) = WorksIn path.now Refused (Desk work.AuditAll)
   Runs (run.Migrate path) = WorksIn path.now Refused (Migration path)
   Runs (run.Serve path port workers each keys) = WithClerks keys (ServesFor path port workers each)
   Runs (run.Send port keys key words) = WithClerks keys (SendsAs port key (texts_of words.now))

@@ -7,9 +7,11 @@ ghost use Rattle.circ_runs.specs.Hosting.{Exchanges, SendsTo, ReadsClerksAt};
 use crate::absent::Absent;
 use crate::calls::{FileTables, close_tables, create, open};
 use crate::files::{is_held, is_log_alone, is_new, may_be_library};
-use crate::notes::{Console, say_bad_rows, say_begun, say_new, say_unread_keys, say_unsafe_keys};
+use crate::notes::{
+    Console, say_bad_rows, say_begun, say_findings, say_new, say_unread_keys, say_unsafe_keys,
+};
 use crate::surroundings::Surroundings;
-use circ::{Exit, WriteFault, no_network, send};
+use circ::{Exit, Findings, WriteFault, no_network, send};
 use clerks::Clerks;
 use front::{CopyCheck, KeysFault, keys_read_once, read_clerks};
 use sqlite::{Start, Wary};
@@ -223,6 +225,13 @@ impl<'a> Surroundings for Host<'a> {
     fn note_bad_rows(&self, found: &CopyCheck) {
         // Ignored: a failed note changes nothing.
         let _ = say_bad_rows(self.rt, found);
+    }
+
+    fn note_findings(&self, found: &Option<Findings>) {
+        if let Some(found) = found {
+            // Ignored: a failed note changes nothing.
+            let _ = say_findings(self.rt, found);
+        }
     }
 
     fn watcher(&self) -> Console<'a> {

@@ -1,12 +1,17 @@
 //! Messages to people on standard error.
 
 use crate::files::{are_keys_open, cause, is_database};
-use circ::{ArgumentForm, Exit, Run, Watch, wrong_argument};
+use circ::{
+    ArgumentForm, Exit, Findings, Run, Watch, law_words, number_of, old_number, old_words,
+    wrong_argument,
+};
+use circ_audit::{Finding, Table};
 use front::{BadRow, CopyCheck, KeysFault, check_copies, checks_agree};
 use itoa::Buffer;
 use messages::{
     Handler, ToldLine, bad_row_in, explain, explain_words, meaning, wanted, write_bad_row,
-    write_bad_rows, write_lost_row, write_usage, write_usage_of, write_wanted,
+    write_bad_rows, write_finding, write_lost_row, write_old_row, write_usage, write_usage_of,
+    write_wanted,
 };
 use std::fs::File;
 use std::io::{IsTerminal, Write};
@@ -25,6 +30,8 @@ pub enum Topic<'a> {
     Checked { copies: &'a str },
     /// A library that is migrated to the newest schema.
     Migration { path: &'a str },
+    /// A library that is audited to the end.
+    Findings { path: &'a str },
     /// Any other run on a library.
     Library { path: &'a str },
 }
@@ -44,6 +51,7 @@ impl<'a> Topic<'a> {
             },
             Run::Check { copies } => Topic::Checked { copies: *copies },
             Run::Migrate { path } => Topic::Migration { path: *path },
+            Run::AuditAll { path } => Topic::Findings { path: *path },
             Run::Report { path, .. } | Run::Audit { path } | Run::Serve { path, .. } => {
                 Topic::Library { path: *path }
             }
@@ -56,6 +64,7 @@ impl<'a> Topic<'a> {
             Topic::Command { path, .. }
             | Topic::Copies { path, .. }
             | Topic::Migration { path }
+            | Topic::Findings { path }
             | Topic::Library { path } => Some(path),
             Topic::Sent { .. } | Topic::Checked { .. } => None,
         }
@@ -66,6 +75,14 @@ impl<'a> Topic<'a> {
             Topic::Migration { .. } => true,
             _ => false,
         }
+    }
+}
+
+/// Returns whether the line is a finding that was explained as it was found.
+fn is_explained(told: &ToldLine, topic: Topic<'_>) -> bool {
+    match topic {
+        Topic::Findings { .. } => told.as_bytes().starts_with(b"unsound "),
+        _ => false,
     }
 }
 
@@ -90,6 +107,9 @@ fn say_wrong_words(rt: &HostRuntime, topic: Topic<'_>) -> Result<(), WriteFault>
 
 /// Explains a line. For a fault of the database, adds what is known of the library file.
 fn say_line(rt: &HostRuntime, told: &ToldLine, topic: Topic<'_>) -> Result<(), WriteFault> {
+    if is_explained(told, topic) {
+        return Ok(());
+    }
     let mut writer = rt.stderr();
     explain(&mut writer, told)?;
     let is_damaged = told.as_bytes().starts_with(b"fault 93");
@@ -124,6 +144,30 @@ fn say_swapped(rt: &HostRuntime, topic: Topic<'_>) -> Result<(), WriteFault> {
 /// Says what is wrong with the bad rows of a copies file.
 pub fn say_bad_rows(rt: &HostRuntime, found: &CopyCheck) -> Result<(), WriteFault> {
     write_bad_rows(&mut rt.stderr(), found)
+}
+
+/// Says what a finding means.
+fn say_finding(rt: &HostRuntime, finding: &Finding) -> Result<(), WriteFault> {
+    write_finding(
+        &mut rt.stderr(),
+        law_words(finding),
+        number_of(finding),
+        finding,
+    )
+}
+
+/// Says what each finding of an audit means.
+pub fn say_findings(rt: &HostRuntime, found: &Findings) -> Result<(), WriteFault> {
+    for finding in found.broken.as_slice() {
+        say_finding(rt, finding)?;
+    }
+    for thing in found.doubled.as_slice() {
+        say_finding(rt, &Finding::Reference(Table::Barcodes, *thing))?;
+    }
+    match &found.old {
+        Some(row) => write_old_row(&mut rt.stderr(), old_words(row), old_number(row)),
+        None => Ok(()),
+    }
 }
 
 /// Returns the first bad row that a check found.

@@ -4,7 +4,7 @@ ghost use Rattle.std.specs.Prelude.{IfOk, IfErr, IfSome, IfNone};
 ghost use Rattle.front.specs.Understood.{texts_of};
 
 use crate::absent::Absent;
-use circ::{Connections, Exit, Outgoing, Port, Watch, WriteFault};
+use circ::{Connections, Exit, Findings, Outgoing, Port, Watch, WriteFault};
 use clerks::Clerks;
 use front::{CopyCheck, KeysFault};
 use std::alloc::Global;
@@ -37,6 +37,9 @@ pub trait Surroundings {
 
     /// Tells a person what is wrong with the bad rows of a copies file.
     fn note_bad_rows(&self, found: &CopyCheck);
+
+    /// Tells a person what the findings of an audit mean, if it came to its end.
+    fn note_findings(&self, found: &Option<Findings>);
 
     /// Returns what is told that a serving desk has closed.
     fn watcher(&self) -> Self::Watcher;

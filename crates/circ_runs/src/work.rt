@@ -15,6 +15,7 @@ pub enum DeskWork<'a> {
     },
     Report(Report),
     Audit,
+    AuditAll,
     Serve {
         path: &'a str,
         workers: usize,

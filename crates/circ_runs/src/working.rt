@@ -10,8 +10,8 @@ use crate::absent::Absent;
 use crate::surroundings::{Serving, Surroundings};
 use crate::work::{DeskWork, Work};
 use circ::{
-    DeskKeys, Exit, Port, Run, Web, WriteFault, audit, check, import, migrate, no_keys, no_network,
-    one, out_of_memory, report, serve, tell_fault, unchecked, unreadable,
+    DeskKeys, Exit, Port, Run, Web, WriteFault, audit, audit_all, check, import, migrate, no_keys,
+    no_network, one, out_of_memory, report, serve, tell_fault, unchecked, unreadable,
 };
 use clerks::Clerks;
 use desk::Desk;
@@ -136,6 +136,12 @@ fn work_at<
             let mut tables = desk.into_store();
             let told = audit(&mut tables, machine.alloc(), writer);
             (tables, told)
+        }
+        DeskWork::AuditAll => {
+            let mut store = desk.into_store();
+            let (found, told) = audit_all(&mut store, machine.alloc(), writer);
+            machine.note_findings(&found);
+            (store, told)
         }
         DeskWork::Serve { path, workers, web } => {
             machine.note(path, OPENS);
@@ -339,6 +345,7 @@ fn do_run<
             (path, Absent::Refused, Work::Desk(DeskWork::Report(report)))
         }
         Run::Audit { path } => (path, Absent::Refused, Work::Desk(DeskWork::Audit)),
+        Run::AuditAll { path } => (path, Absent::Refused, Work::Desk(DeskWork::AuditAll)),
         Run::Migrate { path } => (path, Absent::Refused, Work::Migration { path }),
         Run::Serve {
             path,

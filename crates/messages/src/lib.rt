@@ -3,6 +3,7 @@
 #![tactic(auto)]
 
 mod explaining;
+mod findings;
 mod meanings;
 mod misread;
 mod noting;
@@ -10,6 +11,7 @@ mod rows;
 mod usage;
 
 pub use explaining::{bad_row_in, explain};
+pub use findings::{write_finding, write_old_row};
 pub use meanings::meaning;
 pub use misread::{Handler, explain_words, wanted, write_wanted};
 pub use noting::{Noting, ToldLine};

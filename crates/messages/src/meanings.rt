@@ -180,6 +180,32 @@ const MEANINGS: [Explanation; 42] = [
     },
 ];
 
+// What the findings of an audit mean.
+pub(crate) const CLAIMS: &str =
+    "two or more claims are made on the copy with this number, which can only be in one place";
+
+pub(crate) const BINDING: &str =
+    "the hold with this number is not bound to its copy as its state requires";
+
+pub(crate) const BALANCE: &str =
+    "the patron with this number doesn't owe the charges less payments and waivers";
+
+pub(crate) const BARCODES: &str =
+    "the patron or copy with this number is missing, or has the barcode of another: restore a \
+     backup";
+
+pub(crate) const REFERENCE: &str =
+    "a row of this table, whose key ends with this number, names a row that is missing: \
+     restore a backup";
+
+pub(crate) const NUMBERS: &str =
+    "the row of this table with this number is missing, or there though the number was not \
+     given: restore a backup";
+
+pub(crate) const OLD_ROW: &str =
+    "this table has a row with this number, though only libraries of older schemas have rows \
+     there: restore a backup, or take its rows out with sqlite3";
+
 /// The start of a line without a refusal or fault number, and its meaning.
 #[derive(Clone, Copy)]
 struct Phrase {
@@ -206,46 +232,39 @@ const SAYINGS: [Phrase; 13] = [
     },
     Phrase {
         line: "unsound claims ",
-        text: "two or more claims are made on the copy with this number, which can only be in one \
-               place",
+        text: CLAIMS,
     },
     Phrase {
         line: "unsound binding ",
-        text: "the hold with this number is not bound to its copy as its state requires",
+        text: BINDING,
     },
     Phrase {
         line: "unsound balance ",
-        text: "the patron with this number doesn't owe the charges less payments and waivers",
+        text: BALANCE,
     },
     Phrase {
         line: "unsound reference barcodes ",
-        text: "the patron or copy with this number is missing, or has the barcode of another: \
-               restore a backup",
+        text: BARCODES,
     },
     Phrase {
         line: "unsound reference ",
-        text: "a row of this table, whose key ends with this number, names a row that is missing: \
-               restore a backup",
+        text: REFERENCE,
     },
     Phrase {
         line: "unsound numbers rules ",
-        text: "this table has a row with this number, though only libraries of older schemas have \
-               rows there: restore a backup, or take its rows out with sqlite3",
+        text: OLD_ROW,
     },
     Phrase {
         line: "unsound numbers loans ",
-        text: "this table has a row with this number, though only libraries of older schemas have \
-               rows there: restore a backup, or take its rows out with sqlite3",
+        text: OLD_ROW,
     },
     Phrase {
         line: "unsound numbers holds ",
-        text: "this table has a row with this number, though only libraries of older schemas have \
-               rows there: restore a backup, or take its rows out with sqlite3",
+        text: OLD_ROW,
     },
     Phrase {
         line: "unsound numbers ",
-        text: "the row of this table with this number is missing, or there though the number was \
-               not given: restore a backup",
+        text: NUMBERS,
     },
 ];
 

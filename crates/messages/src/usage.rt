@@ -14,7 +14,7 @@ struct RunForm {
 }
 
 /// The runs of the program.
-const RUNS: [RunForm; 10] = [
+const RUNS: [RunForm; 11] = [
     RunForm {
         name: "file",
         rest: "LIBRARY KEY WORD ...",
@@ -42,6 +42,10 @@ const RUNS: [RunForm; 10] = [
     RunForm {
         name: "audit",
         rest: "LIBRARY",
+    },
+    RunForm {
+        name: "audit",
+        rest: "LIBRARY all",
     },
     RunForm {
         name: "migrate",

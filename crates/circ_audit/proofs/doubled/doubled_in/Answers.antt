@@ -42,7 +42,7 @@ loop-row-preserved c = record {
       let new : c.add_doubled.new.found.items ≡ found ++ with_doubled (has_barcode (take i c.args.rows.now) row.barcode) (thing_number row.thing) [] =
       c.in_ok-add_doubled.ensures
       ∙ ap (λ (b : Bool). found ++ with_doubled b c.number.result []) (c.is_some.ensures ∙ ap is_some c.in_ok-before.ensures.old
-      ∙ c.loop-row.invariant.seen c.as_str.result.now ∙ ap (has_barcode (take i c.args.rows.now)) c.as_str.ensures.value)
+      ∙ c.loop-row.invariant.seen c.as_str-barcode.result.now ∙ ap (has_barcode (take i c.args.rows.now)) c.as_str-barcode.ensures.value)
       ∙ ap (λ (n : ℕ). found ++ with_doubled (has_barcode (take i c.args.rows.now) row.barcode) n []) c.number.ensures in
       ap (λ (xs : List ℕ). take c.args.most (xs ++ doubled_after (take (i + 1) c.args.rows.now) (drop (i + 1) c.args.rows.now))) new
       ∙ ap (take c.args.most) (doubled-more c.args.rows.now i row found c.loop-row-test.true c.row-item.is) ∙ c.loop-row.invariant.numbers;
@@ -53,19 +53,19 @@ loop-row-preserved c = record {
       subst (λ (xs : List ℕ). length xs ≤ c.args.most) (sym c.in_ok-add_doubled.ensures)
       (few-more c.is_some.result c.number.result c.args.most c.loop-row.found.items (omega (arith, few, len, other)));
   seen = λ q.
-      let key : Bor (List ℕ) = record c.as_str.result { now = q } in
+      let key : Bor (List ℕ) = record c.as_str-barcode.result { now = q } in
       let updated = (c.in_ok-before.ensures.updates).0 key in
       let put : is_some (get_by (λ (k : Bor (List ℕ)). slice_cmp nat_cmp q k.now) c.insert.new.self)
-      ≡ is_some (cond (bytes_eq c.as_str.result.now q) (Some tt) (get_by (λ (k : Bor (List ℕ)). slice_cmp nat_cmp q k.now) c.loop-row.seen)) =
+      ≡ is_some (cond (bytes_eq c.as_str-barcode.result.now q) (Some tt) (get_by (λ (k : Bor (List ℕ)). slice_cmp nat_cmp q k.now) c.loop-row.seen)) =
       ap is_some updated
       ∙ ap (λ b. is_some (cond b (Some tt) (get_by (λ (k : Bor (List ℕ)). slice_cmp nat_cmp q k.now) c.loop-row.seen)))
-      (is_eq-slice_cmp c.as_str.result.now q) in
+      (is_eq-slice_cmp c.as_str-barcode.result.now q) in
       let rows = c.args.rows.now in
       let i = c.loop-row.row-index in
-      let one : bytes_eq c.as_str.result.now q ≡ bytes_eq (get_or rows i c.row-item.result).barcode q =
-      ap (λ b. bytes_eq b q) c.as_str.ensures.value ∙ ap (λ (r : BarcodeRow). bytes_eq r.barcode q) c.row-item.is in
+      let one : bytes_eq c.as_str-barcode.result.now q ≡ bytes_eq (get_or rows i c.row-item.result).barcode q =
+      ap (λ b. bytes_eq b q) c.as_str-barcode.ensures.value ∙ ap (λ (r : BarcodeRow). bytes_eq r.barcode q) c.row-item.is in
       put
-      ∙ (put-or (bytes_eq c.as_str.result.now q) (has_barcode (take i rows) q)
+      ∙ (put-or (bytes_eq c.as_str-barcode.result.now q) (has_barcode (take i rows) q)
       (get_by (λ (k : Bor (List ℕ)). slice_cmp nat_cmp q k.now) c.loop-row.seen) (c.loop-row.invariant.seen q)
       ∙ (ap (λ (b : Bool). has_barcode (take i rows) q || b) one
       ∙ sym (list_any_more (λ r. bytes_eq r.barcode q) rows i c.row-item.result c.loop-row-test.true)));

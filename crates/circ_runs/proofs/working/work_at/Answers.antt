@@ -3,7 +3,7 @@ use Rattle.store.specs.Library.{Held}
 use Rattle.front.specs.Understood.{texts_of}
 use Rattle.circ.specs.Saying.{SaysLine}
 use Rattle.circ.specs.Reporting.{TellsAnyReport}
-use Rattle.circ.specs.Auditing.{SaysAudit}
+use Rattle.circ.specs.Auditing.{SaysAudit, SaysAuditAll}
 use Rattle.circ_runs.specs.declared.work.DeskWork.{DeskWork}
 use Rattle.circ_runs.specs.Running.{DoesAtDesk}
 use Rattle.circ_runs.proofs.Asked.{as-served}
@@ -17,6 +17,20 @@ returns-in-Audit g c =
     subst (λ (w : DeskWork). DoesAtDesk g.S.Store g.M.Copies.Read.remaining g.M.Surroundings.outside _ w c.args.desk new before after c.audit-told.result)
     (sym c.in-Audit.is)
     (subst (λ (d : Held g.row.S.Denot). SaysAudit g.S.Store d new before after c.audit-told.result) c.into_store-tables.ensures c.audit-told.ensures)
+
+pub returns-in-AuditAll : goal.returns-in-AuditAll
+returns-in-AuditAll g c =
+    let before = g.W.Write.contents c.args.writer.now in
+    let after = g.W.Write.contents c.audit_all-found.new.writer in
+    let new = c.audit_all-found.new.store in
+    let found = c.audit_all-found.result.0 in
+    let told = c.audit_all-found.result.1 in
+    subst (λ (w : DeskWork). DoesAtDesk g.S.Store g.M.Copies.Read.remaining g.M.Surroundings.outside _ w c.args.desk new before after told)
+    (sym c.in-AuditAll.is) (
+      found,
+      subst (λ (d : Held g.row.S.Denot). SaysAuditAll g.S.Store d new found before after told) c.into_store-store.ensures
+          c.audit_all-found.ensures,
+    )
 
 pub returns-in-Request : goal.returns-in-Request
 returns-in-Request g c =
