@@ -20,9 +20,9 @@ SAYINGS = {
     "fault network": "nobody listens on the port, no answer came, or the port is taken",
     "fault keys": "the file of keys can't be read, or a line of it isn't NAME ROLE KEY",
     "fault threads": "a thread could not be created, so fewer connections were answered",
-    "unsound claims ": "two or more claims are made on the copy with this number, which can only be in one place",
-    "unsound binding ": "the hold with this number is not bound to its copy as its state requires",
-    "unsound balance ": "the patron with this number doesn't owe the charges less payments and waivers",
+    "unsound claims ": "two or more claims are made on the copy with this number, which can only be in one place: restore a backup",
+    "unsound binding ": "the hold with this number is not bound to its copy as its state requires: restore a backup",
+    "unsound balance ": "the patron with this number doesn't owe the charges less payments and waivers: restore a backup",
     "unsound reference barcodes ": (
         "the patron or copy with this number is missing, or has the barcode of another: restore a backup"
     ),

@@ -182,13 +182,15 @@ const MEANINGS: [Explanation; 42] = [
 
 // What the findings of an audit mean.
 pub(crate) const CLAIMS: &str =
-    "two or more claims are made on the copy with this number, which can only be in one place";
+    "two or more claims are made on the copy with this number, which can only be in one place: \
+     restore a backup";
 
 pub(crate) const BINDING: &str =
-    "the hold with this number is not bound to its copy as its state requires";
+    "the hold with this number is not bound to its copy as its state requires: restore a backup";
 
 pub(crate) const BALANCE: &str =
-    "the patron with this number doesn't owe the charges less payments and waivers";
+    "the patron with this number doesn't owe the charges less payments and waivers: restore a \
+     backup";
 
 pub(crate) const BARCODES: &str =
     "the patron or copy with this number is missing, or has the barcode of another: restore a \
