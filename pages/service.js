@@ -13,6 +13,7 @@ import { TEXTS, amount, say } from "./texts.js";
 const VISIT = "circ.visit";
 const UNSHELVES = ["unshelve", "unshelve-cancelled"];
 const NOT_ALLOWED = 81;
+const TOO_MANY = 429;
 const SILENT = { told() {}, toldMore() {}, noted() {}, visit() {}, slip() {}, ended() {} };
 
 // Whether an answer is missing that should have come: not where the desk was closed, nor what a clerk may not ask.
@@ -226,14 +227,14 @@ export class Service {
     if (page || row) this.showVisit();
   }
 
-  // How an item ended that has no reply: it can be sent again under its key where it isn't known whether it was done.
+  // How an item ended that has no reply: it can be sent again under its key where it isn't known whether it was done, or where there were too many requests at once.
   async failed(words, answer) {
     if (!answer) return "stop";
     const problem = this.problemOf(words, answer);
     this.stop(problem, shownWords(words));
     this.screen.ended(words, answer.refusal ?? 0);
     if (answer.refusal) await this.tellWhere({ "check-out": words[2], "check-in": words[1] }[words[0]], problem);
-    return answer.fault || answer.strange ? "again" : "stop";
+    return answer.fault || answer.strange || answer.status === TOO_MANY ? "again" : "stop";
   }
 
   // What an answer that is no reply says of words; of an amount above what the patron at the desk owes, with what that is.

@@ -29,7 +29,7 @@ from lib.program import program as found
 from reference.outer_forms import read_keys
 
 UNITS = ["circ-backup.service", "circ-backup.timer", "circ-day.service", "circ-day.timer", "circ-sip2.service", "circ-tell@.service", "circ-watch.service", "circ-watch.timer", "circ.service"]
-EXAMPLES = ["Caddyfile", "nginx.conf"]
+EXAMPLES = ["Caddyfile", "nginx.conf", *(f"fail2ban/{kind}.d/circ.conf" for kind in ("action", "filter", "jail"))]
 # each file of the package, and the one of the repository that it is made of
 PLAIN = {
     "usr/share/bash-completion/completions/circ": "docs/circ.bash",

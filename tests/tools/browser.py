@@ -26,8 +26,10 @@ from selenium.webdriver.common.by import By
 from selenium.webdriver.common.keys import Keys
 
 from room import TOP
+from lib import limits
 from lib.browser_day import by_names
 from lib.browsing import DESK_KEY, Desk, Failed, Page, browser, complaints, counts, need, until
+from lib.examples import here
 
 LOADED = importlib.util.spec_from_loader("outside", SourceFileLoader("outside", f"{TOP}/tests/tools/outside"))
 outside = importlib.util.module_from_spec(LOADED)
@@ -80,13 +82,17 @@ def behind_nginx(place, port, allowed="allow 127.0.0.1;"):
 @contextlib.contextmanager
 def behind_caddy(place, port):
     at = outside.free_port()
-    site = outside.document("operations/Caddyfile").replace("library.example {", f"http://127.0.0.1:{at} {{").replace("127.0.0.1:8080", f"127.0.0.1:{port}")
-    outside.write(f"{place}/Caddyfile", site.replace("\n{\n", "\n{\n\tadmin off\n", 1).replace("root * /usr/local/share/circ", f"root * {place}/share/circ"))
-    how = {"env": {**os.environ, "HOME": place}, "stdout": subprocess.DEVNULL, "stderr": subprocess.DEVNULL}
-    server = subprocess.Popen(["caddy", "run", "--adapter", "caddyfile", "--config", f"{place}/Caddyfile"], **how)
+    site = here(outside.document("operations/Caddyfile"), place).replace("127.0.0.1:8080", f"127.0.0.1:{port}")
+    site = site.replace("library.example {", f"https://127.0.0.1:{at} {{\n\ttls internal", 1)
+    alone = "\n{\n\tadmin off\n\tskip_install_trust\n\tauto_https disable_redirects\n"
+    site = site.replace("\n{\n", alone, 1).replace("root * /usr/local/share/circ", f"root * {place}/share/circ")
+    outside.write(f"{place}/Caddyfile", site)
+    words = ["caddy", "run", "--adapter", "caddyfile", "--config", f"{place}/Caddyfile"]
+    with open(f"{place}/caddy.err", "ab") as told:
+        server = subprocess.Popen(words, env={**os.environ, "HOME": place}, stdout=told, stderr=told)
     try:
         outside.await_port(at)
-        yield f"http://127.0.0.1:{at}"
+        yield f"https://127.0.0.1:{at}"
     finally:
         server.terminate()
         server.wait()
@@ -579,20 +585,6 @@ def slow_body(base):
     sent.close()
 
 
-def guesser(base):
-    """Who guesses keys is soon answered with 429 on both routes, and not for ever."""
-    for route, many in (("/patrons/1", 60), ("/desk", 400)):
-        body = ("-d", '["today"]') if route == "/desk" else ()
-        fixed = ("--next", "-s", "-k", "-o", os.devnull, "-w", "%{http_code}\n", "-H", "Request-Key: g", *body)
-        keys = lambda n: ("-H", f"Card-Key: wrongkey{n:04}", "-H", f"Desk-Key: wrongkey{n:04}")
-        asked = [it for n in range(many) for it in (*fixed, *keys(n), f"{base}{route}")][1:]
-        told = outside.run("curl", *asked).stdout.split()
-        need(f"what a guesser is told at {route}", ({*told} == {"403", "429"}, told[0], told[-1]), (True, "403", "429"))
-        time.sleep(3)
-        again = outside.run("curl", *asked[: asked.index("--next")]).stdout.split()
-        need(f"and later at {route}", again, ["403"])
-
-
 def town(place):
     """The pages are installed, and the town gives its branches their names; its library has its first day and its
     branches."""
@@ -640,12 +632,14 @@ def tried(behind, pictures):
                 killed(driver, base, serving)
                 lending(driver, base, serving, place)
                 need("what the browser complains of", complaints(driver), [])
+            with behind(place, serving.port) as base, limits.LIMITED[behind.__name__](place):
+                quick(driver, base)
+                limits.guesser(driver, base)
             if behind is behind_nginx:
-                with behind_nginx(place, serving.port) as base:
-                    quick(driver, base)
-                    guesser(base)
                 with behind_nginx(place, serving.port, allowed="") as base:
                     strangers(driver, base)
+            else:
+                limits.no_key_is_logged(place)
             by_names(driver, behind, place, Serving(place, "names.db"))
         finally:
             driver.quit()
