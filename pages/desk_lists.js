@@ -3,17 +3,18 @@
 import { buttonsOf, renew } from "./action_buttons.js";
 import { isAskedFirst } from "./asked_first.js";
 import { isBarcode, isNumber, onlyAsk } from "./commands.js";
-import { plain, write } from "./isolating.js";
+import { marked, plain, write } from "./isolating.js";
 import { readCopy, readList } from "./questions.js";
 import { foundBy } from "./replies.js";
 import { actionsOfRow } from "./row_actions.js";
+import { askForNames } from "./row_names.js";
 import { saidNo } from "./saying.js";
 import { saveFile } from "./saving.js";
 import { cut, nameOf } from "./scans.js";
 import { backToLine, focusScan } from "./scan_line.js";
 import { it, print } from "./screen.js";
 import { csvOf, fileNameOf, sorted, sortedNext } from "./sheet.js";
-import { expiredHold, headOf, isOfBranch, tableOf, wordsOfQuestion } from "./tables.js";
+import { expiredHold, headOf, isOfBranch, namelessOf, tableOf, wordsOfQuestion } from "./tables.js";
 import { TEXTS, TOWN, branchName, say } from "./texts.js";
 import { speak } from "./voice.js";
 
@@ -39,8 +40,9 @@ function tell(text, isWrong = false) {
 }
 
 // A row, with a cell for what can be done with it where there is something.
-function rowOf(cells, actions, what) {
+function rowOf(cells, actions, what, patron) {
   const row = document.createElement("tr");
+  if (patron !== undefined) row.dataset.patron = patron;
   row.append(...cells.map((text) => {
     const cell = write(document.createElement("td"), text);
     if (/^[0-9.-]+$/.test(text)) cell.className = "whole";
@@ -121,13 +123,26 @@ function show({ question, list, branch, day }) {
   write(it("list-head"), head);
   it("list-place").textContent = say(TEXTS.listPlace, { branch: isOfBranch(question) ? branchName(branch) : TOWN, day: day ?? TEXTS.noDay });
   it("list-columns").replaceChildren(headsOf(columns));
-  renew(it("list-rows"), rows.map((cells) => rowOf(cells, actionsLeft(made.get(cells)), whatOf(made.get(cells)))));
+  renew(it("list-rows"), rows.map((cells) => rowOf(cells, actionsLeft(made.get(cells)), whatOf(made.get(cells)), made.get(cells).patron)));
   it("unshelve-all").hidden = expired.length < 2;
   it("unshelve-all").textContent = say(TEXTS.unshelveAll, { count: expired.length });
   it("more").hidden = list.after === null;
   it("list-table").hidden = rows.length === 0;
   it("list-paper").hidden = rows.length === 0 && list.after === null;
   tell(rows.length > 0 ? "" : say(TEXTS.ofLabel, { label: head, told: list.after === null ? TEXTS.noRows : TEXTS.noneYet }));
+}
+
+// The names that a list doesn't tell come after it, each into its cells, so that nothing moves that is being pressed.
+async function showNames(ask) {
+  const { shown } = view;
+  const { question, list } = shown;
+  const column = tableOf(question, list).columns.indexOf(TEXTS.colName);
+  const named = (patron, name) => {
+    for (const row of list.rows) if (row.patron === patron) row.name = name;
+    for (const row of it("list-rows").querySelectorAll(`[data-patron="${patron}"]`)) write(row.children[column], marked(name));
+  };
+  await askForNames(namelessOf(question, list.rows), { ask, named, isWanted: () => view.shown === shown });
+  if (view.shown === shown && view.sorting?.column === column) show(shown);
 }
 
 // What was answered, as a list; one without a head is told by what was asked about.
@@ -162,6 +177,7 @@ async function ask(desk, question, about, after, before) {
   if (!list) return tell(saidNo(answer.reply ? { strange: 200 } : answer, words), true);
   view.shown = { question, about, branch: desk.branch, day: desk.day, act: desk.act, list: { ...list, rows: [...before, ...list.rows] } };
   show(view.shown);
+  showNames(desk.ask);
 }
 
 // What is wrong with what a question is about, which is a text, or a number with its prefix or without.

@@ -34,7 +34,7 @@ const OF_ROWS = {
   transits: ({ copy }) => [missing(copy)],
   overdue: ({ patron, copy }) => [serves(TEXTS.doServe, patron, "check-out"), missing(copy)],
   shelf: ({ hold, patron, text, until }, { day }) => [
-    day !== null && until < day ? sends(TEXTS.unshelve, ["unshelve", hold]) : sends(TEXTS.cancel, ["unshelve-cancelled", hold], { patron, text })],
+    serves(TEXTS.doServe, patron, "check-out"), day !== null && until < day ? sends(TEXTS.unshelve, ["unshelve", hold]) : sends(TEXTS.cancel, ["unshelve-cancelled", hold], { patron, text })],
   debts: (row) => [serves(TEXTS.pay, row.patron, "pay"), waive(row), account(row.patron)],
   "find-patrons": (row) => [serves(TEXTS.doServe, row.patron, "check-out"), ...ofPatron(row), patronDetails(row.patron)],
   borrower: (row) => [serves(TEXTS.doServe, row.patron, "check-out"), ...ofPatron(row), ...dropBarcode(row.barcode, { patron: row.patron })],
@@ -44,7 +44,8 @@ const OF_ROWS = {
     ...ofCopy(row), fills(TEXTS.doAmend, "amend-copy", { copy: row.copy, kind: row.kind, price: amount(row.price) }), fills(TEXTS.doRehome, "rehome", { copy: row.copy, branch: row.home }),
     newBarcode("copy-barcode", { copy: row.copy }), ...dropBarcode(row.barcode, { copy: row.copy }), shows(TEXTS.doLoans, "loans", row.copy)],
   copies: (row) => [...ofCopy(row), shows(TEXTS.doDetails, "copy", row.copy)],
-  queue: ({ hold, patron }, { head }) => [sends(TEXTS.cancel, ["cancel-hold", hold], { patron, text: head.text })],
+  queue: ({ hold, patron }, { head }) => [serves(TEXTS.doServe, patron, "check-out"), sends(TEXTS.cancel, ["cancel-hold", hold], { patron, text: head.text })],
+  loans: ({ patron }) => [serves(TEXTS.doServe, patron, "check-out")],
   "missing-copies": ({ copy }) => [withdraw(copy)],
   branches: ({ branch, pickup, name, week }) => [fills(TEXTS.doAmend, "amend-branch", { branch, pickup, name }), fills(TEXTS.doWeek, "week", { branch, mask: week }), shows(TEXTS.closedDays, "closed-days", branch)],
   "closed-days": ({ day }, { about }) => [sends(TEXTS.doOpenDay, ["open-day", about, day])],

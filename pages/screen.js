@@ -1,6 +1,7 @@
 // What the desk's page shows.
 
 import { buttonsOf, renew } from "./action_buttons.js";
+import { alertsOf } from "./alerts.js";
 import { today } from "./days.js";
 import { write } from "./isolating.js";
 import { receiptEnd, receiptHead } from "./receipt.js";
@@ -121,6 +122,7 @@ export function showVisit(visit, act) {
   const owed = visit && amount(visit.page.owed);
   it("patron").hidden = visit === null;
   write(it("patron-head"), visit ? say(TEXTS.patronHead, { ...visit.page, owed }) : "");
+  it("patron-alerts").textContent = visit ? alertsOf(visit.page, visit.receipt.branch, visit.receipt.day).join(" ") : "";
   renew(it("patron-lines"), visit ? linesOf(visit, act) : []);
   renew(it("patron-actions"), visit ? buttonsOf(actionsOfPatron(visit.page), visit.page.name, act) : []);
   it("visit").hidden = visit === null;

@@ -1,5 +1,6 @@
 // How a desk serves: words are sent, what they changed is asked for and told, and the patron at the desk has a page and a receipt.
 
+import { alertsOf } from "./alerts.js";
 import { knownBy } from "./asked_first.js";
 import { newKey } from "./asking.js";
 import { onlyAsk } from "./commands.js";
@@ -67,7 +68,7 @@ export class Service {
     const isAgain = this.visit?.turn === turn && this.visit.page.patron === patron;
     this.visit = isAgain ? { ...this.visit, page: answer.reply } : { page: answer.reply, turn, receipt: newReceipt(answer.reply, this.day.now, this.branch), untils: {} };
     this.showVisit();
-    this.screen.told(said(answer.reply));
+    this.screen.told([said(answer.reply), ...alertsOf(answer.reply, this.branch, this.day.now)].join(" "));
     this.screen.noted(shownWords(words), said(answer.reply), []);
     this.lookForDay();
     await this.lookForDays();

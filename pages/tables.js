@@ -7,6 +7,8 @@ import { TEXTS, amount, branchName, say } from "./texts.js";
 const whole = (name) => (row) => String(row[name]);
 const orNone = (name) => (row) => (row[name] === null ? "" : String(row[name]));
 const free = (name) => (row) => (row[name] === null ? "" : marked(row[name]));
+// a name comes after its row, or never
+const named = ({ name }) => (name === undefined ? "" : marked(name));
 const money = (name) => (row) => amount(row[name]);
 const where = ({ place }) => whereIs(place);
 const weekdays = TEXTS.weekdays.split(" ");
@@ -20,12 +22,13 @@ const sortAt = (row) => (row.branch === null ? sort(row) : say(TEXTS.sortAt, { s
 
 const [copy, hold, patron, title] = [[TEXTS.colCopy, whole("copy")], [TEXTS.colHold, orNone("hold")], [TEXTS.colPatron, whole("patron")], [TEXTS.colTitle, free("text")]];
 const barcode = [TEXTS.colBarcode, orNone("barcode")];
+const whose = [TEXTS.colName, named];
 
 // Of each question its head, and its columns with what stands in them of a row.
 const TABLES = {
   pulls: { head: TEXTS.pulls, columns: [copy, title, hold] },
-  shelf: { head: TEXTS.shelf, columns: [hold, copy, patron, [TEXTS.colUntil, whole("until")], title] },
-  overdue: { head: TEXTS.overdue, columns: [[TEXTS.colLoan, whole("loan")], patron, copy, [TEXTS.colDue, whole("due")], [TEXTS.colLate, whole("late")], title] },
+  shelf: { head: TEXTS.shelf, columns: [hold, copy, patron, whose, [TEXTS.colUntil, whole("until")], title] },
+  overdue: { head: TEXTS.overdue, columns: [[TEXTS.colLoan, whole("loan")], patron, whose, copy, [TEXTS.colDue, whole("due")], [TEXTS.colLate, whole("late")], title] },
   transits: { head: TEXTS.transits, columns: [copy, title, hold] },
   till: { head: TEXTS.tillOf, columns: [[TEXTS.colSum, sort], [TEXTS.colAmount, money("amount")]] },
   "till-at": { head: TEXTS.tillAtOf, columns: [[TEXTS.colSum, sort], [TEXTS.colAmount, money("amount")]] },
@@ -40,7 +43,7 @@ const TABLES = {
   copy: { head: TEXTS.copyOf, columns: [copy, title, [TEXTS.colTitleNumber, whole("title")], [TEXTS.colHome, ({ home }) => branchName(home)], [TEXTS.colPrice, money("price")], [TEXTS.colPlace, where], barcode] },
   copies: { head: TEXTS.copiesOf, columns: [copy, [TEXTS.colPlace, where]] },
   "missing-copies": { head: TEXTS.missingCopies, columns: [copy, title, [TEXTS.colTitleNumber, whole("title")], [TEXTS.colHome, ({ home }) => branchName(home)]] },
-  loans: { head: TEXTS.loansOf, columns: [[TEXTS.colLoan, whole("loan")], patron, [TEXTS.colMade, whole("made")], [TEXTS.colDue, whole("due")], [TEXTS.colEnded, orNone("ended")]] },
+  loans: { head: TEXTS.loansOf, columns: [[TEXTS.colLoan, whole("loan")], patron, whose, [TEXTS.colMade, whole("made")], [TEXTS.colDue, whole("due")], [TEXTS.colEnded, orNone("ended")]] },
   branches: { head: TEXTS.branches, columns: [[TEXTS.branch, whole("branch")], [TEXTS.colName, free("name")], [TEXTS.colClosed, closed], [TEXTS.colPickUpDays, whole("pickup")]] },
   "closed-days": { head: TEXTS.closedDaysOf, columns: [[TEXTS.colDay, whole("day")]] },
   kinds: { head: TEXTS.kinds, columns: [[TEXTS.colKind, whole("kind")], [TEXTS.colLoans, whole("loans")], [TEXTS.colHolds, whole("holds")], [TEXTS.colDebt, money("debt")]] },
@@ -48,7 +51,7 @@ const TABLES = {
     head: TEXTS.rulesOf,
     columns: [[TEXTS.colCopyKind, whole("copyKind")], [TEXTS.colPeriod, whole("period")], [TEXTS.colRenewals, whole("renewals")], [TEXTS.colRate, money("rate")], [TEXTS.colCap, money("cap")], [TEXTS.colGrace, whole("grace")]],
   },
-  queue: { head: TEXTS.queueOf, columns: [hold, patron, [TEXTS.colPickUp, ({ branch }) => branchName(branch)], [TEXTS.colFrom, orNone("from")]] },
+  queue: { head: TEXTS.queueOf, columns: [hold, patron, whose, [TEXTS.colPickUp, ({ branch }) => branchName(branch)], [TEXTS.colFrom, orNone("from")]] },
 };
 
 // How what a head tells is shown.
@@ -82,6 +85,14 @@ export function headOf(question, about) {
   if (question === "closed-days") return { branch: about };
   if (question === "loans") return { copy: about };
   return question === "rules" ? { kind: about } : null;
+}
+
+// The lists whose rows have the numbers of patrons alone.
+const NUMBERED = ["shelf", "overdue", "loans", "queue"];
+
+// The patrons of a list whose names are still to be asked for, each once.
+export function namelessOf(question, rows) {
+  return NUMBERED.includes(question) ? [...new Set(rows.filter(({ name }) => name === undefined).map(({ patron }) => patron))] : [];
 }
 
 // The words of a question about a branch, a number, a day or a text, from a number on; the till of one branch is that of the desk's.

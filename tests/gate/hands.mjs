@@ -615,6 +615,8 @@ it = desk();
 it.work.scan("check-out", "2");
 await until(() => isQuiet(it));
 is([bodies(sent), it.work.service.visit.untils], [["page 2", "shelf 2 6", "shelf 1 11"], { 7: "2026-03-07" }]);
+// what is ready at this branch is told with the page
+is([it.told.at(-1), it.noted], [["Patron 2, Bo Carr: 0 on loan, 3 on hold, owes 0.00. 1 hold is ready here.", false], ["page 2: Patron 2, Bo Carr: 0 on loan, 3 on hold, owes 0.00."]]);
 
 // ---- a tab that is loaded anew knows the patron at the desk and the receipt; a closed desk shows nothing that comes later
 sent = network(turns([reply("loan 2 due 2026-03-09")], { "page 2": bo }));

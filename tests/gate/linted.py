@@ -1,6 +1,7 @@
 #!/usr/bin/env python3
 """Looks at the repository's scripts: `shellcheck` finds nothing in those of the shell and `pyflakes3` nothing in those
-of Python, where Debian's packages of these names are installed, and no more lines of Python are long than were.
+of Python, where Debian's packages of these names are installed, and no more lines of Python are long than were. `node
+--check` reads each module of the pages and of their tests, and a short look finds nothing in those of the pages.
 
     tests/gate/linted.py
 """
@@ -13,6 +14,7 @@ import tempfile
 
 from room import TOP
 from lib.checking import check, none, run_script
+from lib.modules import faults
 
 COLUMNS = 119
 # So many lines of Python have more. It is made smaller when lines are, and never larger.
@@ -21,6 +23,22 @@ LONG = 1630
 MEANT = "'room' imported but unused"
 # for each tool a script, and what is wrong with it
 WRONG = {"shellcheck": ("#!/bin/sh\nrm $1\n", "SC2086"), "pyflakes3": ("import os\n", "'os' imported but unused")}
+# two modules, and what is wrong with the second
+WRONG_MODULES = {
+    "right.js": "// What is right.\nexport const used = 1;\n",
+    "wrong.js": """import { used, absent } from "./right.js";
+let state = 1;
+export const nobodys = (given) => state == ABSENT && given(lost(`${gone(1)}, ${used}`));
+document.body.innerHTML = absent; // lost(1)
+""",
+}
+FAULTS = [
+    "wrong.js doesn't begin by what it is for", "wrong.js imports absent, which right.js doesn't have",
+    "wrong.js exports nobodys for nobody", "wrong.js has a value that is compared by == or !=",
+    "wrong.js has a text that is read as HTML", "wrong.js has state outside of an object",
+    "wrong.js uses ABSENT, which it doesn't declare", "wrong.js uses gone, which it doesn't declare",
+    "wrong.js uses lost, which it doesn't declare",
+]
 
 
 def scripts():
@@ -58,7 +76,33 @@ def looks(tool, paths):
     none(f"{tool} finds", [it for it in found_by(tool, paths) if MEANT not in it])
 
 
+def read(path):
+    with open(path, encoding="utf-8") as file:
+        return file.read()
+
+
+def is_read(text):
+    """Whether node reads a module."""
+    words = ["node", "--input-type=module", "--check"]
+    return subprocess.run(words, input=text, capture_output=True, text=True, timeout=60, check=False).returncode == 0
+
+
+def modules():
+    """The modules of the pages and of their tests; how many there are."""
+    pages = {it: read(f"{TOP}/pages/{it}") for it in sorted(os.listdir(f"{TOP}/pages")) if it.endswith(".js")}
+    tests = {it: read(f"{TOP}/tests/{it}") for at in ("gate", "lib") for it in
+             (f"{at}/{name}" for name in sorted(os.listdir(f"{TOP}/tests/{at}"))) if it.endswith(".mjs")}
+    told = is_read("export const a = 1;"), is_read("const a = ;")
+    check("what node reads of right and of wrong text", told, (True, False))
+    none("node doesn't read", [name for name, text in {**pages, **tests}.items() if not is_read(text)])
+    wrong = [fault for name in WRONG_MODULES for fault in faults(name, WRONG_MODULES, "")]
+    check("what is found in wrong modules", wrong, FAULTS)
+    none("in the pages", [fault for name in pages for fault in faults(name, pages, "".join(tests.values()))])
+    return len(pages) + len(tests)
+
+
 def main():
+    print(f"linted: {modules()} modules")
     every = list(scripts())
     shell, python = ([path for path, is_python in every if is_python == wanted] for wanted in (False, True))
     told = f"{len(shell)} scripts of the shell and {len(python)} of Python"

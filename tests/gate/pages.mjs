@@ -218,9 +218,14 @@ for (const [question, text] of [["pulls", ""], ["till-at", "till 2026-03-03\npay
 const table = (question, text) => tableOf(question, readList(question, text));
 is(table("pulls", "hold 2 copy 11 title 100 Rivers of the North\nend"), { head: "Pull list", columns: ["Copy", "Title", "Hold"], rows: [["11", "Rivers of the North", "2"]] });
 is(table("shelf", "      hold    copy  patron until      title\n         1      20       2 2026-03-07 Salt Roads\nend"),
-  { head: "On the hold shelf", columns: ["Hold", "Copy", "Patron", "Until", "Title"], rows: [["1", "20", "2", "2026-03-07", "Salt Roads"]] });
+  { head: "On the hold shelf", columns: ["Hold", "Copy", "Patron", "Name", "Until", "Title"], rows: [["1", "20", "2", "", "2026-03-07", "Salt Roads"]] });
 is(table("overdue", "      loan  patron    copy due         late title\n         1       3      10 2026-03-09     7 Rivers of the North\nend"),
-  { head: "Overdue", columns: ["Loan", "Patron", "Copy", "Due", "Days late", "Title"], rows: [["1", "3", "10", "2026-03-09", "7", "Rivers of the North"]] });
+  { head: "Overdue", columns: ["Loan", "Patron", "Name", "Copy", "Due", "Days late", "Title"], rows: [["1", "3", "", "10", "2026-03-09", "7", "Rivers of the North"]] });
+// names come after the rows: each patron is asked about once, and what is named stands in its column, marked
+const late = [[1, 3], [2, 5], [3, 3]].map(([loan, patron]) => ({ loan, patron, copy: 10, due: "2026-03-09", late: 7, text: "Rivers of the North" }));
+is(["overdue", "shelf", "loans", "queue", "debts", "pulls"].map((question) => tables.namelessOf(question, late)), [...Array(4).fill([3, 5]), [], []]);
+late[1].name = "Ed Fox";
+is([tables.namelessOf("overdue", late), tables.tableOf("overdue", { head: null, rows: late }).rows.map((cells) => cells[2])], [[3], ["", marked("Ed Fox"), ""]]);
 is(table("transits", "copy 20 for 1 title 200 Salt Roads\ncopy 21 title 300 Maps\nend").rows, [["20", "Salt Roads", "1"], ["21", "Maps", ""]]);
 is(table("debts", "patron 2 owed 1300 name Bo Carr\nend"), { head: "Patrons who owe, all branches", columns: ["Patron", "Name", "Owes"], rows: [["2", "Bo Carr", "13.00"]] });
 const found = (question, text) => tableOf(question, { ...readList(question, text), head: { sought: "zoe" } });
@@ -240,8 +245,8 @@ is(told("rules", "2", "rule 2 1 period 28 renewals 2 rate 20 cap 1000 grace 3\ne
 is(told("missing-copies", 1, "copy 20 home 2 title 200 Salt Roads\nend"), {
   head: "Missing copies", columns: ["Copy", "Title", "Title number", "Home"], rows: [["20", "Salt Roads", "200", "branch 2"]] });
 is(told("loans", "10", "loan 1 patron 1 made 2026-03-02 due 2026-03-09 ended 2026-03-03\nloan 2 patron 2 made 2026-03-03 due 2026-03-09\nend"), {
-  head: "Loans of copy 10", columns: ["Loan", "Patron", "Lent", "Due", "Ended"], rows: [["1", "1", "2026-03-02", "2026-03-09", "2026-03-03"], ["2", "2", "2026-03-03", "2026-03-09", ""]] });
-is(told("loans", "11", "end"), { head: "Loans of copy 11", columns: ["Loan", "Patron", "Lent", "Due", "Ended"], rows: [] });
+  head: "Loans of copy 10", columns: ["Loan", "Patron", "Name", "Lent", "Due", "Ended"], rows: [["1", "1", "", "2026-03-02", "2026-03-09", "2026-03-03"], ["2", "2", "", "2026-03-03", "2026-03-09", ""]] });
+is(told("loans", "11", "end"), { head: "Loans of copy 11", columns: ["Loan", "Patron", "Name", "Lent", "Due", "Ended"], rows: [] });
 is([wordsOfQuestion("missing-copies", 1, 20), wordsOfQuestion("loans", "10", 1)], [["missing-copies", 20], ["loans", "10", 1]]);
 is(["pulls", "copies", "find-patrons", "find-titles", "branches", "kinds"].map((question) => headOf(question, "an")), [null, null, { sought: "an" }, { sought: "an" }, null, null]);
 is(table("account", "patron 1 owed 40 name Ann Bell\nline 1 2026-03-17 fine 100 loan 1 title 100 Rivers of the North\nline 2 2026-03-17 payment 60\nend"), {
@@ -258,7 +263,7 @@ is(table("till-at", "till 2026-03-03 at 1\npayments               0\ncharges    
 is(["pulls", "shelf", "transits", "overdue", "till-at", "till", "debts", "missing-copies", "find-patrons", "account", "kinds"].map(tables.isOfBranch), [...Array(5).fill(true), ...Array(6).fill(false)]);
 is(wordsOfQuestion("till-at", "2026-03-03", 0, "2"), ["till-at", "2", "2026-03-03"]);
 is(table("queue", "title 100 Rivers of the North\nhold 2 patron 3 at 2\nhold 3 patron 1 at 1 from 2026-04-01\nend"), {
-  head: "Who waits for Rivers of the North, title 100", columns: ["Hold", "Patron", "Pick-up at", "From"], rows: [["2", "3", "branch 2", ""], ["3", "1", "branch 1", "2026-04-01"]] });
+  head: "Who waits for Rivers of the North, title 100", columns: ["Hold", "Patron", "Name", "Pick-up at", "From"], rows: [["2", "3", "", "branch 2", ""], ["3", "1", "", "branch 1", "2026-04-01"]] });
 is(table("copies", "title 100 Rivers of the North\ncopy 10 loan 1 due 2026-03-09\ncopy 11 transit 1 for 1\ncopy 15 missing\nend"), {
   head: "Copies of Rivers of the North, title 100", columns: ["Copy", "Where"],
   rows: [["10", "Loan 1, due 2026-03-09."], ["11", "In transit to branch 1, for hold 1."], ["15", "Missing."]],

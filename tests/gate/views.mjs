@@ -8,6 +8,8 @@ import { Idle } from "../../pages/idle.js";
 import { problemOfWords } from "../../pages/misread.js";
 import { lookFirst } from "../../pages/opening.js";
 import { readReply } from "../../pages/replies.js";
+import { alertsOf } from "../../pages/alerts.js";
+import { askForNames } from "../../pages/row_names.js";
 import { actionsOfHold, actionsOfLoan, actionsOfPatron, actionsOfRow } from "../../pages/row_actions.js";
 import { cut } from "../../pages/scans.js";
 import { Search, searchedBy } from "../../pages/search.js";
@@ -70,21 +72,21 @@ const rowsOf = {
   "find-patrons": [{ patron: 2, owed: 130, name: "Bo Carr" }], "find-titles": [{ title: 100, text: "Rivers" }], queue: [{ hold: 7, patron: 2, branch: 1, from: null }], "missing-copies": [{ copy: 11, home: 1, title: 100, text: "Rivers" }],
   copy: ["shelf", "loan", "missing", "withdrawn"].map((to) => ({ copy: 11, home: 1, kind: 1, price: 2500, title: 100, text: "Rivers", place: { to }, barcode: to === "loan" ? "a1" : null })), copies: [{ copy: 11, place: { to: "shelf" } }],
   branches: [{ branch: 1, pickup: 5, week: "ooooooc", name: "Main" }], "closed-days": [{ day: "2026-12-24" }], kinds: [{ kind: 1, loans: 5, holds: 5, debt: 500 }],
-  rules: [{ kind: 1, copyKind: 2, period: 6, renewals: 1, rate: 20, cap: 100, grace: 3 }], account: [{ line: 1, text: null }], loans: [{ loan: 1 }], till: [{ sort: "fines", amount: 0 }], "till-at": [{ sort: "charges", amount: 0 }],
+  rules: [{ kind: 1, copyKind: 2, period: 6, renewals: 1, rate: 20, cap: 100, grace: 3 }], account: [{ line: 1, text: null }], loans: [{ loan: 1, patron: 2 }], till: [{ sort: "fines", amount: 0 }], "till-at": [{ sort: "charges", amount: 0 }],
   borrower: [null, "20000000000001"].map((barcode) => ({ patron: 2, owed: 130, name: "Bo Carr", patronKind: 1, barcode })),
 };
 const toldOf = ({ text, sends, fills, values, shows, about, serves, mode }) => `${text}: ${sends?.join(" ") ?? (fills && [fills, ...Object.entries(values).map((of) => of.join("="))].join(" ")) ?? (shows && `${shows} ${about}`) ?? `${mode} ${serves}`}`;
 const actionsOf = (question) => rowsOf[question].map((row) => actionsOfRow(question, row, { day: "2026-03-08", about: "1", head: { text: "Rivers" } }));
 is(Object.fromEntries(Object.keys(rowsOf).map((question) => [question, actionsOf(question).map((them) => them.map(toldOf).join("; "))])), {
   pulls: ["Missing: missing 11"], transits: ["Missing: missing 11"], debts: ["Pay: pay 2; Waive: waive patron=2 amount=1.30; Account: account 2"], overdue: ["Serve: check-out 2; Missing: missing 11"],
-  shelf: ["Unshelve: unshelve 7", "Cancel: unshelve-cancelled 8"], "find-patrons": ["Serve: check-out 2; Account: account 2; Charge: charge patron=2; Amend: amend-patron patron=2 name=Bo Carr; New card key: card-key patron=2; New barcode: patron-barcode patron=2; Details: borrower 2"],
+  shelf: ["Serve: check-out 2; Unshelve: unshelve 7", "Serve: check-out 2; Cancel: unshelve-cancelled 8"], "find-patrons": ["Serve: check-out 2; Account: account 2; Charge: charge patron=2; Amend: amend-patron patron=2 name=Bo Carr; New card key: card-key patron=2; New barcode: patron-barcode patron=2; Details: borrower 2"],
   borrower: ["", "; Drop the barcode: drop-barcode 20000000000001"].map((dropped) => `Serve: check-out 2; Account: account 2; Charge: charge patron=2; Amend: amend-patron patron=2 name=Bo Carr; New card key: card-key patron=2; New barcode: patron-barcode patron=2${dropped}`),
-  "find-titles": ["Copies: copies 100; Who waits: queue 100; Amend: amend-title title=100 text=Rivers; Add a copy: acquire title=100 text=Rivers"], queue: ["Cancel: cancel-hold 7"], "missing-copies": ["Withdraw: withdraw 11"],
+  "find-titles": ["Copies: copies 100; Who waits: queue 100; Amend: amend-title title=100 text=Rivers; Add a copy: acquire title=100 text=Rivers"], queue: ["Serve: check-out 2; Cancel: cancel-hold 7"], "missing-copies": ["Withdraw: withdraw 11"],
   copy: [["Missing: missing 11", "Withdraw: withdraw 11"], ["Missing: missing 11"], ["Withdraw: withdraw 11"], []].map((them, at) => [
     ...them, "Amend: amend-copy copy=11 kind=1 price=25.00", "New home: rehome copy=11 branch=1", "New barcode: copy-barcode copy=11", ...(at === 1 ? ["Drop the barcode: drop-barcode a1"] : []), "Loans: loans 11"].join("; ")),
   copies: ["Missing: missing 11; Withdraw: withdraw 11; Details: copy 11"], branches: ["Amend: amend-branch branch=1 pickup=5 name=Main; Week: week branch=1 mask=ooooooc; Closed days to come: closed-days 1"],
   "closed-days": ["Open on this day: open-day 1 2026-12-24"], kinds: ["Amend: kind kind=1 loans=5 holds=5 debt=5.00; Rules: rules 1"],
-  rules: ["Amend: rule kind=1 period=6 renewals=1 copy-kind=2 rate=0.20 cap=1.00; Grace days: grace kind=1 copy-kind=2 days=3"], account: [""], loans: [""], till: [""], "till-at": [""],
+  rules: ["Amend: rule kind=1 period=6 renewals=1 copy-kind=2 rate=0.20 cap=1.00; Grace days: grace kind=1 copy-kind=2 days=3"], account: [""], loans: ["Serve: check-out 2"], till: [""], "till-at": [""],
 });
 const everyAction = [...Object.keys(rowsOf).flatMap((question) => actionsOf(question).flat()), ...actionsOfLoan({ loan: 1, renewals: 1 }), ...["waiting", "ready"].flatMap((state) => actionsOfHold({ hold: 7, state, text: "Rivers" }, { name: "Bo Carr" })),
   ...actionsOfPatron({ patron: 2, owed: 130, name: "Bo Carr" })];
@@ -93,6 +95,33 @@ is(everyAction.filter(({ fills, values }) => fills && !Object.keys(values).every
 is(everyAction.filter(({ shows }) => shows && !QUESTIONS.includes(shows)), []);
 is([actionsOfLoan({ loan: 1, renewals: 0 }), actionsOfHold({ hold: 7, state: "ready", text: "Rivers" }, { name: "Bo" }).map(toldOf), actionsOfPatron({ patron: 2, owed: 0, name: "Bo" }).map(({ text }) => text)],
   [[], ["Cancel: unshelve-cancelled 7"], ["Account", "Charge", "Amend", "New card key", "New barcode", "Details"]]);
+
+// ---- what is told first of a patron: holds that are ready at this branch, and loans that are late on the library's day
+const alerts = (holds, dues, branch, day) => alertsOf({ holds: holds.map(([state, at]) => ({ state, branch: at })), loans: dues.map((due) => ({ due })) }, branch, day);
+is([alerts([["ready", 1], ["ready", 2], ["waiting", 1]], ["2026-03-09"], "1", "2026-03-09"), alerts([["ready", 1], ["ready", 1]], ["2026-03-09", "2026-03-08"], 1, "2026-03-10"), alerts([], ["2026-03-09", "2026-03-11"], "1", "2026-03-10"),
+  alerts([["ready", 2], ["waiting", 1]], ["2026-03-09"], "1", null)], [["1 hold is ready here."], ["2 holds are ready here.", "2 loans are overdue."], ["1 loan is overdue."], []]);
+
+// ---- the names of a list's patrons are asked for a few at a time, each once, as long as the list is shown
+async function namesOf(patrons, answers, most = Infinity) {
+  const found = [], askedFor = [];
+  let under = 0, together = 0;
+  await askForNames(patrons, {
+    ask: async ([question, patron]) => {
+      askedFor.push(`${question} ${patron}`);
+      together = Math.max(together, under += 1);
+      await pause(1);
+      under -= 1;
+      return answers(Number(patron));
+    },
+    isWanted: () => found.length < most, named: (patron, name) => found.push(`${patron} ${name}`),
+  });
+  return { found, askedFor, together };
+}
+const nameOf = (patron) => ({ reply: { kind: "borrower", patron, name: `N${patron}` } });
+const nine = [1, 2, 3, 4, 5, 6, 7, 8, 9];
+is(await namesOf(nine, (patron) => (patron === 2 ? { refusal: 11 } : patron === 3 ? null : nameOf(patron))), { found: [1, 4, 5, 6, 7, 8, 9].map((patron) => `${patron} N${patron}`), askedFor: nine.map((patron) => `borrower ${patron}`), together: 4 });
+for (const answer of [{ refusal: 81 }, { status: 429 }]) is([await namesOf(nine, () => answer)].map(({ found, askedFor }) => [found, askedFor.length]), [[[], 4]]);
+is([await namesOf(nine, nameOf, 2)].map(({ found, askedFor }) => [found, askedFor.length < 7]), [[["1 N1", "2 N2"], true]]);
 
 // ---- fields: what they are called, what they must be, and what is sent of them
 is(Object.entries(COMMANDS).filter(([name]) => !QUESTIONS.includes(name)).flatMap(([name, parts]) => parts.filter((part) => part !== "loan" && (!labelOfPart(name, part) || !formOf(part)))), []);

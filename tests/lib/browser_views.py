@@ -501,6 +501,75 @@ def calendar_of_year(driver, fake):
     fake.day = time.strftime("%Y-%m-%d")
 
 
+def alerts(driver, fake):
+    """What is ready for a patron at this branch, and what is overdue, is told with the page and stands in the panel
+    as it is now."""
+    page = "patron 2 owed 0 name Bo Carr"
+    loan, held = "loan 5 due 2026-03-09 renewals 1 title 7 Tides", "hold 7 at 1 ready title 8 Maps"
+    other = "hold 9 at 2 ready title 9 Bees"
+    fake.says(answers({"page 2": [reply("\n".join([page, loan, held, other])), reply("\n".join([page, loan, other]))],
+                       "check-out 2 20": reply("loan 6 due 2999-01-02")}))
+    desk = Desk(driver, fake.url, 1)
+    driver.execute_script("""window.spoken = []; for (const it of document.querySelectorAll('[aria-live]'))
+        new MutationObserver(() => window.spoken.push(it.textContent.trim())).observe(it, {childList: true})""")
+    alert, panel = "1 hold is ready here. 1 loan is overdue.", lambda: desk.it("patron-alerts").text
+    desk.keys("2", Keys.ENTER)
+    until("it is told", lambda: desk.told() == f"Patron 2, Bo Carr: 1 on loan, 2 on hold, owes 0.00. {alert}")
+    need("in the panel too", panel(), alert)
+    until("it is spoken once", lambda: driver.execute_script("return window.spoken") == [desk.told()])
+    desk.keys("20", Keys.ENTER)
+    until("what is ready is taken", lambda: panel() == "1 loan is overdue.")
+    driver.refresh()
+    until("it is there again", lambda: panel() == "1 loan is overdue.")
+    desk.it("next").click()
+    need("nothing of it stays", (desk.it("patron-alerts").is_displayed(), alert in driver.page_source), (False, False))
+
+
+def names_in_lists(driver, fake):
+    """Overdue loans, the hold shelf and who waits have the names of the patrons, each asked for once. They come after
+    the rows, whose buttons stay; the list is sorted, saved and printed with them."""
+    late = threading.Event()
+    row = "{:>10} {:>7} {:>7} 2026-03-09     7 Tides"
+    overdue = ["      loan  patron    copy due         late title",
+               *(row.format(*of) for of in ((1, 4, 11), (2, 2, 12), (3, 4, 13))), "end"]
+    shelf = ["      hold    copy  patron until      title", "         7      20       2 2999-01-02 Maps", "end"]
+    fake.says(answers({"overdue 1 0": reply("\n".join(overdue)), "shelf 1 0": reply("\n".join(shelf)),
+                       "borrower 4": reply("patron 4 owed 0 name Di Eck\nkind 1", late),
+                       "borrower 2": reply("patron 2 owed 0 name Bo Carr\nkind 1"),
+                       "page 2": reply("patron 2 owed 0 name Bo Carr"), "missing": reply("fine 0 price 100")}))
+    desk = Desk(driver, fake.url, 1)
+    desk.press("overdue")
+    both = [f"{loan} {patron} {10 + loan} 2026-03-09 7 Tides"
+            for loan, patron in ((1, "4 Di Eck"), (2, "2 Bo Carr"), (3, "4 Di Eck"))]
+    until("a name", lambda: rows(desk) == [it.replace(" Di Eck", "") for it in both])
+    button = driver.find_element(By.CSS_SELECTOR, "#list-rows tr:first-child button:last-child")
+    ActionChains(driver).click_and_hold(button).perform()
+    late.set()
+    until("the other one", lambda: rows(desk) == both)
+    ActionChains(driver).release().perform()
+    until("the button was pressed", lambda: desk.told().startswith("Report Tides, copy 11, as missing?"))
+    desk.go_on()
+    asked = sorted(it for it in fake.words() if it.startswith("borrower"))
+    need("each is asked for once", asked, ["borrower 2", "borrower 4"])
+    every = "return [...document.querySelectorAll(arguments[0])].map((it) => it[arguments[1]])"
+    need("names stand by themselves", driver.execute_script(every, "#list-rows bdi", "textContent"),
+         ["Di Eck", "Tides", "Bo Carr", "Tides", "Di Eck", "Tides"])
+    need("of what the heads are", driver.execute_script(every, "#list-columns th", "scope"), ["col"] * 8)
+    driver.find_elements(By.CSS_SELECTOR, "#list-columns th button")[2].click()
+    need("by name", rows(desk), [both[1], both[0], both[2]])
+    driver.execute_script("""window.saved = []; const make = URL.createObjectURL; URL.createObjectURL = (blob) => {
+        blob.text().then((text) => window.saved.push(text)); return make.call(URL, blob); }""")
+    desk.it("save-list").click()
+    until("it is saved", lambda: len(driver.execute_script("return window.saved")) == 1)
+    need("what is saved", driver.execute_script("return window.saved")[0].split("\r\n")[:2],
+         ["Loan,Patron,Name,Copy,Due,Days late,Title", "2,2,Bo Carr,12,2026-03-09,7,Tides"])
+    desk.press("shelf")
+    until("the hold shelf", lambda: rows(desk) == ["7 20 2 Bo Carr 2999-01-02 Maps"])
+    need("it fits a telephone", desk.fits(320), True)
+    driver.find_element(By.CSS_SELECTOR, "#list-rows button").click()
+    until("who comes for it", lambda: desk.it("patron-head").text.startswith("Bo Carr"))
+
+
 def left_alone(driver, fake):
     """After ten minutes a patron is signed out, and a desk covered until its key is typed; what waits is sent below
     the cover, and nothing is shown, pressed or taken there, also after a reload."""

@@ -59,7 +59,8 @@ def guesses(base, route, many):
     fixed = ("-s", "-k", "--http1.1", "-o", os.devnull, "-w", "%{http_code}\n", "-H", "Request-Key: g", *body)
     asked = []
     for at in range(many):
-        asked += ["--next", *fixed, "-H", f"Card-Key: wrongkey{at:04}", "-H", f"Desk-Key: wrongkey{at:04}", base + route]
+        key = f"wrongkey{at:04}"
+        asked += ["--next", *fixed, "-H", f"Card-Key: {key}", "-H", f"Desk-Key: {key}", base + route]
     told = subprocess.run(["curl", *asked[1:]], capture_output=True, text=True, timeout=120, check=False)
     return told.stdout.split()
 
@@ -88,7 +89,7 @@ class Guessing:
 def asked_once(page, asks):
     """Asks until it is told that there are too many requests; then nothing is sent again by itself."""
     page.driver.execute_script("""window.asked = 0; const send = window.fetch;
-        window.fetch = (...what) => { window.asked += what[0].startsWith('/pages/') ? 0 : 1; return send(...what); };""")
+        window.fetch = (...what) => { window.asked += 1; return send(...what); };""")
     for _ in range(20):
         asks()
         if page.told().endswith(TOO_MANY):

@@ -36,7 +36,8 @@ outside = importlib.util.module_from_spec(LOADED)
 LOADED.loader.exec_module(outside)
 BRANCHES = {"1": "Main", "2": "Harbour"}
 # what is done before a desk opens, since it opens for a branch that is there
-SET_UP = ("begin-day 2026-03-02", "branch ")
+FIRST_DAY = "2026-03-02"
+SET_UP = (f"begin-day {FIRST_DAY}", "branch ")
 
 
 class Serving:
@@ -131,11 +132,14 @@ class Known:
     are ready, which copies are on loan, who had each last, and who owes how much."""
 
     def __init__(self):
+        self.day = FIRST_DAY
         self.of_copy, self.of_title, self.names, self.holders, self.loans, self.untils, self.borrowers, self.owed = {}, {}, {}, {}, {}, {}, {}, {}
 
     def learn(self, line, answer):
         name, *parts = re.findall(r"'[^']*'|\S+", line)
-        if name == "acquire":
+        if name == "begin-day":
+            self.day = parts[0]
+        elif name == "acquire":
             self.of_copy[parts[0]] = self.of_title[parts[1]] = parts[5].strip("'")
         elif name == "patron":
             self.names[parts[0]] = parts[3].strip("'")
@@ -210,11 +214,16 @@ def shown(line):
     return refused(line)
 
 
-def page_shown(answer):
+def page_shown(answer, branch, day):
+    """What is told of a patron's page, with what is ready at the branch and what is overdue on the library's day."""
     first, *rest = answer.split("\n")
     patron, owed, name = re.fullmatch(r"patron (\d+) owed (\d+) name (.*)", first).groups()
     loans, holds = (sum(it.startswith(kind) for it in rest) for kind in ("loan ", "hold "))
-    return f"Patron {patron}, {name}: {loans} on loan, {holds} on hold, owes {dollars(owed)}."
+    told = f"Patron {patron}, {name}: {loans} on loan, {holds} on hold, owes {dollars(owed)}."
+    ready = len(re.findall(rf"^hold \d+ at {branch} ready ", answer, re.M))
+    late = sum(due < day for due in re.findall(r"^loan \d+ due (\S+)", answer, re.M))
+    told += f" {ready} holds are ready here." if ready > 1 else " 1 hold is ready here." if ready else ""
+    return told + (f" {late} loans are overdue." if late > 1 else " 1 loan is overdue." if late else "")
 
 
 def of_account(line, day, sort, cents, at, what, text):
@@ -224,18 +233,21 @@ def of_account(line, day, sort, cents, at, what, text):
     return f"{line} {day} {sort}{place} {dollars(cents)} {what or text or ''}".strip()
 
 
-def cells(question, answer):
-    """The rows that a list shows for an answer."""
+def cells(question, answer, names):
+    """The rows that a list shows for an answer; some have the names of patrons beside their numbers."""
+    def with_name(before, patron, *them):
+        return " ".join([*before.split(), patron, names[patron], *(it for it in them if it)])
+
     forms = {
         "pulls": (r"hold (\d+) copy (\d+) title \d+ (.*)", lambda hold, copy, text: f"{copy} {text} {hold}"),
         "transits": (r"copy (\d+) for (\d+) title \d+ (.*)", lambda copy, hold, text: f"{copy} {text} {hold}"),
-        "shelf": (r" *(\d+) +(\d+) +(\d+) (\S+) (.*)", lambda *them: " ".join(them)),
-        "overdue": (r" *(\d+) +(\d+) +(\d+) (\S+) +(\d+) (.*)", lambda *them: " ".join(them)),
+        "shelf": (r" *(\d+ +\d+) +(\d+) (\S+) (.*)", with_name),
+        "overdue": (r" *(\d+) +(\d+) +(\d+) (\S+) +(\d+) (.*)", with_name),
         "debts": (r"patron (\d+) owed (\d+) name (.*)", lambda patron, owed, name: f"{patron} {name} {dollars(owed)}"),
         "account": (r"line (\d+) (\S+) (\w+) (\d+)(?: at (\d+))?(?: for (.*))?(?: loan \d+ title \d+ (.*))?", of_account),
         "till": (r"(\w+) +(\d+)", lambda sort, cents: f"{sort} {dollars(cents)}"),
         "missing-copies": (r"copy (\d+) home (\d+) title (\d+) (.*)", lambda copy, home, title, text: f"{copy} {text} {title} {BRANCHES[home]}"),
-        "loans": (r"loan (\d+) patron (\d+) made (\S+) due (\S+)(?: ended (\S+))?", lambda *them: " ".join(it for it in them if it)),
+        "loans": (r"loan (\d+) patron (\d+) made (\S+) due (\S+)(?: ended (\S+))?", with_name),
         "rules": (r"rule \d+ (\d+) period (\d+) renewals (\d+) rate (\d+) cap (\d+) grace (\d+)", lambda kind, *them: " ".join([kind, *them[:2], dollars(them[2]), dollars(them[3]), them[4]])),
         "find-patrons": (r"patron (\d+) owed (\d+) name (.*)", lambda patron, owed, name: f"{patron} {name} {dollars(owed)}"),
         "find-titles": (r"title (\d+) (.*)", lambda title, text: f"{title} {text}"),
@@ -340,7 +352,7 @@ class Clerk:
 
     def page(self, line, answer, patron):
         self.visit("check-out", patron, self.branch)
-        self.told(line, page_shown(answer))
+        self.told(line, page_shown(answer, self.branch, self.known.day))
         holds = re.findall(r"^hold (\d+) at (\d+) ready title \d+ (.*)$", answer, re.M)
         lines = [f"{text}, hold {hold}, ready at {BRANCHES[branch]} until {self.known.untils[hold]}" for hold, branch, text in holds]
         until("until when holds are ready", lambda: [it for it in self.desk.items("patron-lines") if ", ready at " in it] == lines)
@@ -362,8 +374,10 @@ class Clerk:
             desk.press(question)
         else:
             desk.press(question)
-        found = cells(question, answer)
+        found = cells(question, answer, self.known.names)
         until("the list is answered", lambda: desk.it("list-told").text != "Sending …")
+        if question in ("shelf", "overdue", "loans"):
+            until("the names have come", lambda: desk.items("list-rows") == found, 10)
         rows = desk.items("list-rows")
         # a list on the page begins at its beginning, so of an account that is asked for from a line on it shows the
         # lines before too

@@ -759,14 +759,16 @@ def past_their_day(driver, fake):
     desk.press("shelf")
     until("the hold shelf", lambda: len(rows(desk)) == 4)
     buttons = lambda: [[it.text for it in row.find_elements(By.TAG_NAME, "button")] for row in driver.find_elements(By.CSS_SELECTOR, "#list-rows tr")]
-    need("who is past", buttons(), [["Unshelve"], ["Cancel"], ["Unshelve"], ["Unshelve"]])
+    expired, other, done = ["Serve", "Unshelve"], ["Serve", "Cancel"], ["Serve"]
+    need("who is past", buttons(), [expired, other, expired, expired])
     need("all", (desk.it("unshelve-all").is_displayed(), desk.it("unshelve-all").text), (True, "Unshelve all 3 past their day"))
-    driver.find_elements(By.CSS_SELECTOR, "#list-rows button")[2].click()
+    driver.find_elements(By.CSS_SELECTOR, "#list-rows button")[5].click()
     until("it is unshelved", lambda: "unshelve 3" in fake.words())
-    need("its button is gone", buttons(), [["Unshelve"], ["Cancel"], [], ["Unshelve"]])
+    need("its button is gone", buttons(), [expired, other, done, expired])
     desk.it("unshelve-all").click()
     until("so are the others", lambda: [it for it in fake.words() if it.startswith("unshelve")] == ["unshelve 3", "unshelve 1", "unshelve 4"])
-    need("no button of these is left", (buttons(), desk.it("unshelve-all").is_displayed()), ([[], ["Cancel"], [], []], False))
+    need("no button of these is left", buttons(), [done, other, done, done])
+    need("nor one for all", desk.it("unshelve-all").is_displayed(), False)
 
 
 def slips(driver, fake):
@@ -833,7 +835,8 @@ def another_day(driver, fake):
     need("320 pixels", desk.fits(320), True)
 
 
-PARTS = (views.tabs, views.searching, views.acting, views.labels_and_charges, views.lends_alone, views.left_alone,
+PARTS = (views.tabs, views.searching, views.acting, views.alerts, views.names_in_lists,
+         views.labels_and_charges, views.lends_alone, views.left_alone,
          views.icon, views.on_paper, views.german, views.for_everybody, views.patrons_page, views.calendar_of_year, lists, past_their_day,
          slips, fast_scans, refused_scans,
          unread_answers, receipts, signed_out, telephone, opening, scanners, hands_at_the_desk, another_day,
