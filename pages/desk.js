@@ -28,15 +28,10 @@ import { YearView } from "./year_view.js";
 const DESK = "circ.desk-key";
 const MINUTE = 60_000;
 // what is under way while the desk is open, and what ends it
-let work = null;
-let leaving = null;
-let day = null;
-let asking = null;
-let papers = null;
-let behind = null;
+const here = { work: null, leaving: null, day: null, asking: null, papers: null, behind: null };
 const branches = new Branches(localStorage);
 const forms = new EntryForms((words) => {
-  work.press(words);
+  here.work.press(words);
   focusScan();
 });
 
@@ -58,8 +53,8 @@ function tellUnknown(text) {
 }
 
 function showDay() {
-  showHead(desk().branch, day.now);
-  if (day.now !== null) showTillDay(day.now);
+  showHead(desk().branch, here.day.now);
+  if (here.day.now !== null) showTillDay(here.day.now);
 }
 
 const screen = {
@@ -70,7 +65,7 @@ const screen = {
   toldMore: (text) => tellQuietly(text, true),
   noted: (...what) => {
     note(...what);
-    papers.addNote(...what);
+    here.papers.addNote(...what);
   },
   waiting: (queue) => {
     showDay();
@@ -81,11 +76,11 @@ const screen = {
   visit: (visit) => showVisit(visit, (action) => act(openDesk(), action)),
   slip: (slip) => {
     showSlip(slip);
-    papers.addSlip(slip);
+    here.papers.addSlip(slip);
   },
   nobody: () => {
     clearNotes();
-    papers.clearNotes();
+    here.papers.clearNotes();
     silence();
     clearLookUps();
     forms.clearPatron();
@@ -102,8 +97,8 @@ const screen = {
 // The open desk, as what is pressed and what is asked of it have it.
 function openDesk() {
   const { branch, key } = desk();
-  const ask = (words, unknown = () => {}) => askBy(key, leaving.signal, words, newKey(), unknown);
-  return { branch, day: day.now, work, ask, forms, act: (action) => act(openDesk(), action), showList: (question, about) => showList(openDesk(), question, about) };
+  const ask = (words, unknown = () => {}) => askBy(key, here.leaving.signal, words, newKey(), unknown);
+  return { branch, day: here.day.now, work: here.work, ask, forms, act: (action) => act(openDesk(), action), showList: (question, about) => showList(openDesk(), question, about) };
 }
 
 // Asks for the branches as the library names them.
@@ -136,7 +131,7 @@ it("print-receipt").addEventListener("click", () => print("receipt"));
 it("print-slips").addEventListener("click", () => print("slips"));
 it("put-away").addEventListener("click", () => {
   putSlipsAway();
-  papers.clearSlips();
+  here.papers.clearSlips();
   focusScan();
 });
 
@@ -148,56 +143,56 @@ it("sound").addEventListener("change", () => {
 
 function open() {
   showOpen(true);
-  leaving = new AbortController();
+  here.leaving = new AbortController();
   const { key, branch, lendsAlone } = desk();
-  const { signal } = leaving;
+  const { signal } = here.leaving;
   const ask = (words, requestKey, unknown) => askBy(key, signal, words, requestKey, () => tellUnknown(unknown));
-  day = new LibraryDay((words) => askBy(key, signal, words, newKey(), () => {}), showDay);
-  asking = setInterval(() => day.look(), MINUTE);
-  papers = new Papers(sessionStorage, MOST_NOTES);
-  for (const slip of papers.slips) showSlip(slip);
-  for (const what of papers.notes) note(...what);
-  behind = new LeftBehind(branch, key, sessionStorage, localStorage);
-  behind.beOpen();
-  work = new Work({ branch, ask, screen, storage: sessionStorage, day, lendsAlone, kept: (items) => behind.keep(items) });
-  showMode(work.turn.mode);
-  work.showTurn();
+  here.day = new LibraryDay((words) => askBy(key, signal, words, newKey(), () => {}), showDay);
+  here.asking = setInterval(() => here.day.look(), MINUTE);
+  here.papers = new Papers(sessionStorage, MOST_NOTES);
+  for (const slip of here.papers.slips) showSlip(slip);
+  for (const what of here.papers.notes) note(...what);
+  here.behind = new LeftBehind(branch, key, sessionStorage, localStorage);
+  here.behind.beOpen();
+  here.work = new Work({ branch, ask, screen, storage: sessionStorage, day: here.day, lendsAlone, kept: (items) => here.behind.keep(items) });
+  showMode(here.work.turn.mode);
+  here.work.showTurn();
   focusScan();
-  if (work.queue.isStopped) tell(TEXTS.stillStopped, true);
-  work.queue.run();
-  if (work.service.visit?.receipt.day === null) work.service.lookForDay();
-  else day.look();
+  if (here.work.queue.isStopped) tell(TEXTS.stillStopped, true);
+  here.work.queue.run();
+  if (here.work.service.visit?.receipt.day === null) here.work.service.lookForDay();
+  else here.day.look();
   cover.idle.begin();
 }
 
 // Opens the desk once its key and its branch are found right.
 async function tryToOpen(key, branch) {
-  leaving?.abort();
+  here.leaving?.abort();
   const mine = new AbortController();
-  leaving = mine;
+  here.leaving = mine;
   tell(TEXTS.sending);
   const found = await lookFirst((words) => askBy(key, mine.signal, words, newKey(), () => tellUnknown(TEXTS.unknownOpening)), branch);
-  if (found === null || mine !== leaving) return;
+  if (found === null || mine !== here.leaving) return;
   if (found.problem !== null) return tell(found.problem, true);
   sessionStorage.setItem(DESK, JSON.stringify({ key, branch, lendsAlone: found.rows === null }));
   branches.here = branch;
   it("desk-key").value = "";
   tell("");
   const tabs = await openTabs();
-  if (mine !== leaving) return;
+  if (mine !== here.leaving) return;
   open();
-  takeOver(behind.take(tabs));
+  takeOver(here.behind.take(tabs));
   showBranches(found.rows);
 }
 
 // Puts what waited in a tab that is closed before the clerk, who says whether it is sent.
 function takeOver(items) {
-  work.queue.takeOver(items);
+  here.work.queue.takeOver(items);
   if (items.length > 0) tell(TEXTS.leftBehind, true);
 }
 
 // Whoever closes the page while something waits is asked by the browser.
-window.addEventListener("beforeunload", (event) => work?.queue.isEmpty === false && event.preventDefault());
+window.addEventListener("beforeunload", (event) => here.work?.queue.isEmpty === false && event.preventDefault());
 
 it("sign-in").addEventListener("submit", (event) => {
   event.preventDefault();
@@ -216,8 +211,8 @@ function closing(unknown, unsent) {
 
 // Leaves nothing of the open desk on the page, and tells.
 function close(text, isWrong) {
-  leaving.abort();
-  behind.leave();
+  here.leaving.abort();
+  here.behind.leave();
   search.end();
   cover.idle.end();
   sessionStorage.clear();
@@ -225,7 +220,7 @@ function close(text, isWrong) {
   putSlipsAway();
   clearLists();
   showHead(null, null);
-  clearInterval(asking);
+  clearInterval(here.asking);
   showOpen(false);
   clearNotes();
   for (const form of document.forms) form.reset();
@@ -240,23 +235,23 @@ function close(text, isWrong) {
 }
 
 it("sign-out").addEventListener("click", () => {
-  const { unknown, unsent } = work.end();
+  const { unknown, unsent } = here.work.end();
   close(closing(unknown, unsent), unknown.length + unsent.length > 0);
 });
 
 // Leaves a covered desk to another clerk: what waits is kept for the one who scanned it.
 function leave() {
-  close(work.leave() ? TEXTS.leftKept : TEXTS.closed, false);
+  close(here.work.leave() ? TEXTS.leftKept : TEXTS.closed, false);
 }
 
 fillIn();
 const search = new SearchBox({
   ask: (words, signal) => askBy(desk().key, signal, words, newKey(), () => tellUnknown(TEXTS.unknownOpening)),
-  wanted: () => wanted(mode(), work.expected),
-  take: (number) => work.pick(mode(), number),
+  wanted: () => wanted(mode(), here.work.expected),
+  take: (number) => here.work.pick(mode(), number),
 });
-listenForScans({ work: () => work, search });
-listenForWords(() => work);
+listenForScans({ work: () => here.work, search });
+listenForWords(() => here.work);
 listenForTabs();
 listenForLists(openDesk);
 offerBranches();

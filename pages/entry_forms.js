@@ -19,7 +19,7 @@ const FORMS = {
   },
 };
 
-export const panelOfForm = (command) => Object.keys(FORMS).find((panel) => Object.hasOwn(FORMS[panel], command));
+const panelOfForm = (command) => Object.keys(FORMS).find((panel) => Object.hasOwn(FORMS[panel], command));
 
 function element(name, properties, ...children) {
   const made = Object.assign(document.createElement(name), properties);

@@ -16,8 +16,7 @@ import { silence, speak } from "./voice.js";
 
 const it = (id) => document.getElementById(id);
 // who is signed in, if anybody is, and whose loans are shown
-let patron = null;
-let loans = [];
+const here = { patron: null, loans: [] };
 
 // Tells, and speaks what isn't told already.
 function tell(text, isWrong = false) {
@@ -81,20 +80,20 @@ function keepFocus(path, list) {
 function show(page) {
   const { dataset, parentElement } = document.activeElement;
   const [path, list] = [dataset.path, parentElement?.closest("ul")?.id];
-  ({ loans } = page);
+  here.loans = page.loans;
   write(it("name"), marked(page.name));
   it("owed").textContent = page.owed === 0 ? TEXTS.owesNothing : say(TEXTS.owes, { owed: amount(page.owed) });
   it("owed").className = page.owed === 0 ? "" : "late";
   it("loans").replaceChildren(...(page.loans.length ? page.loans.map(loanItem) : [none(TEXTS.noLoans)]));
   it("holds").replaceChildren(...(page.holds.length ? page.holds.map(holdItem) : [none(TEXTS.noHolds)]));
   it("renew-all").hidden = renewable().length < 2;
-  it("save-days").hidden = loans.length === 0;
+  it("save-days").hidden = here.loans.length === 0;
   it("sign-in").hidden = true;
   it("page").hidden = false;
   if (path !== undefined) keepFocus(path, list);
 }
 
-const renewable = () => loans.filter(({ renewals }) => renewals > 0);
+const renewable = () => here.loans.filter(({ renewals }) => renewals > 0);
 
 // The title that the address asks to hold, as #hold=100, is filled in.
 function fillHold() {
@@ -107,7 +106,7 @@ function fillHold() {
 // Shows the page that a signed-in patron is answered; whether it came.
 async function look(mine) {
   const answer = await mine.look();
-  if (!answer || mine !== patron) return false;
+  if (!answer || mine !== here.patron) return false;
   if (answer.reply?.kind !== "page") {
     tell(saidNo(answer.reply ? { strange: 200 } : answer), true);
     return false;
@@ -125,7 +124,7 @@ function said(reply) {
 // Tells what was answered, and shows the page as it is then; whether it was done.
 async function finish(mine, answering) {
   const answer = await answering;
-  if (!answer || mine !== patron) return false;
+  if (!answer || mine !== here.patron) return false;
   const text = answer.reply ? said(answer.reply) : saidNo(answer);
   tell(text, !answer.reply);
   if (await look(mine)) tell(text, !answer.reply);
@@ -134,23 +133,23 @@ async function finish(mine, answering) {
 
 // Renews what can be renewed, one after another, and tells how many were and why others weren't.
 async function renewAll() {
-  const mine = patron;
+  const mine = here.patron;
   const all = renewable();
   const problems = [];
   if (mine.door.isBusy) return;
   tell(TEXTS.sending);
   for (const loan of all) {
     const answer = await mine.act(`/loans/${loan.loan}/renew`);
-    if (!answer || mine !== patron) return;
+    if (!answer || mine !== here.patron) return;
     if (!answer.reply) problems.push(say(TEXTS.ofTitle, { text: loan.text, told: saidNo(answer) }));
   }
   const text = [say(TEXTS.renewedSome, { count: all.length - problems.length, all: all.length }), ...problems].join(" ");
   if (await look(mine)) tell(text, problems.length > 0);
-  if (it("renew-all").hidden && mine === patron) it("loans-head").focus();
+  if (it("renew-all").hidden && mine === here.patron) it("loans-head").focus();
 }
 
 async function act(path, body) {
-  const mine = patron;
+  const mine = here.patron;
   if (mine.door.isBusy) return false;
   tell(TEXTS.sending);
   return finish(mine, mine.act(path, body));
@@ -163,21 +162,21 @@ it("sign-in").addEventListener("submit", async (event) => {
   if (problem) return tell(problem, true);
   if (!isKey(key)) return tell(say(TEXTS.wrongForm, { what: TEXTS.cardKeyForm }), true);
   it("card-key").value = "";
-  patron?.signOut();
-  const mine = new SignedIn({ number, key }, () => mine === patron && tellUnknown());
-  patron = mine;
+  here.patron?.signOut();
+  const mine = new SignedIn({ number, key }, () => mine === here.patron && tellUnknown());
+  here.patron = mine;
   idle.renew();
   tell(TEXTS.sending);
   const isShown = await look(mine);
-  if (mine !== patron) return;
+  if (mine !== here.patron) return;
   if (isShown) {
     tell("");
     it("name").focus();
     fillHold();
   } else {
     idle.end();
-    patron.signOut();
-    patron = null;
+    here.patron.signOut();
+    here.patron = null;
   }
 });
 
@@ -195,15 +194,15 @@ it("place").addEventListener("submit", async (event) => {
 });
 
 it("renew-all").addEventListener("click", once(renewAll));
-it("save-days").addEventListener("click", () => saveFile(`${today()}.ics`, "text/calendar", calendarOf(loans)));
+it("save-days").addEventListener("click", () => saveFile(`${today()}.ics`, "text/calendar", calendarOf(here.loans)));
 window.addEventListener("hashchange", fillHold);
 
 // Leaves nothing of the patron, and tells.
 function signOut(told) {
   idle.end();
-  const wasBusy = patron.signOut();
-  patron = null;
-  loans = [];
+  const wasBusy = here.patron.signOut();
+  here.patron = null;
+  here.loans = [];
   it("page").hidden = true;
   it("sign-in").hidden = false;
   for (const id of ["name", "owed", "loans", "holds"]) it(id).replaceChildren();
@@ -221,10 +220,10 @@ fillIn();
 it("branches").append(...Object.values(BRANCHES).map((name) => new Option(name)));
 
 // What was on its way when the tab was loaded anew comes first.
-patron = SignedIn.before(tellUnknown);
-if (patron) {
-  const before = patron.actBefore();
-  if (before) finish(patron, before);
-  else look(patron).then(fillHold);
+here.patron = SignedIn.before(tellUnknown);
+if (here.patron) {
+  const before = here.patron.actBefore();
+  if (before) finish(here.patron, before);
+  else look(here.patron).then(fillHold);
   idle.begin();
 }

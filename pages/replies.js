@@ -9,7 +9,7 @@ const PLACES = [
   [`transit ${NUMBER}`, ([branch]) => ({ to: "branch", branch: Number(branch), hold: null })],
 ];
 
-export function readPlace(text) {
+function readPlace(text) {
   return firstOf(PLACES, text);
 }
 

@@ -12,7 +12,7 @@ export function whereIs(place) {
 }
 
 // Where a copy goes; with the name of the patron for whom, where it is known.
-export function placeOf(found, name) {
+function placeOf(found, name) {
   const place = { ...found, name, branch: branchName(found.branch) };
   switch (found.to) {
     case "shelf": return say(TEXTS.toShelf, place);

@@ -5,7 +5,8 @@ import { beginsScan, endsScan, scansIn } from "./scans.js";
 import { it, mode, tell } from "./screen.js";
 import { TEXTS, say } from "./texts.js";
 
-let lastKey = "";
+// the key that was pressed last, where nothing was pressed by a mouse since
+const pressed = { key: "" };
 
 export function focusScan() {
   it("scan").focus();
@@ -53,7 +54,7 @@ function listenToModes({ work, search }) {
     work().choose(mode());
     search.typed();
   });
-  it("modes").addEventListener("click", () => lastKey.startsWith("Arrow") || focusScan());
+  it("modes").addEventListener("click", () => pressed.key.startsWith("Arrow") || focusScan());
   it("modes").addEventListener("keydown", (event) => event.key === "Enter" && focusScan());
 }
 
@@ -99,7 +100,7 @@ const isForLine = (event) => beginsScan(event) || (["Enter", "Backspace"].includ
 // selected stays so.
 function listenToPage(desk) {
   document.addEventListener("keydown", (event) => {
-    lastKey = event.key;
+    pressed.key = event.key;
     if (isForLine(event)) backToLine();
   });
   document.addEventListener("paste", (event) => {
@@ -109,7 +110,7 @@ function listenToPage(desk) {
     focusScan();
   });
   window.addEventListener("focus", backToLine);
-  document.addEventListener("pointerdown", () => { lastKey = ""; });
+  document.addEventListener("pointerdown", () => { pressed.key = ""; });
   document.addEventListener("click", (event) => {
     const isSelecting = !document.getSelection().isCollapsed;
     if (!it("desk").hidden && !isSelecting && !event.target.closest("input, select, button, label, summary, [role=option]")) focusScan();

@@ -2,7 +2,7 @@
 
 import { readList } from "./questions.js";
 
-export const PAUSE = 250;
+const PAUSE = 250;
 
 // What is searched for where a number is wanted and letters are typed: patrons, titles, or null for nothing.
 export function searchedBy(wanted, { of, number }) {

@@ -1,7 +1,8 @@
 // The sounds of a refusal and of a copy that wants more than its shelf, which can be switched off; the choice stays with the browser.
 
 const OFF = "circ.sound";
-let context = null;
+// what sounds, once something did
+const made = { context: null };
 
 export function isSoundOn() {
   return localStorage.getItem(OFF) !== "off";
@@ -15,7 +16,8 @@ export function switchSound(isOn) {
 // Plays notes one after another, each with when it begins, in seconds; a browser that gives no sound says nothing.
 function play(notes, type) {
   if (!isSoundOn() || !window.AudioContext) return;
-  context ??= new AudioContext();
+  made.context ??= new AudioContext();
+  const { context } = made;
   for (const [begin, hertz] of notes) {
     const note = context.createOscillator();
     note.type = type;

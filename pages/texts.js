@@ -1,8 +1,8 @@
-import { marked } from "./isolating.js";
-import * as german from "./texts_de.js";
-
 // Every text that the pages show, so that a town can have them in its own language. {braces} are filled in. Each other language has a file of its own with the same keys.
 // There is a meaning for each number that the program tells, and what a word must be is as the program says it: tests/gate/pages.py compares them.
+
+import { marked } from "./isolating.js";
+import * as german from "./texts_de.js";
 
 export const MEANINGS = {
   10: "There is no such branch.",

@@ -2,13 +2,18 @@
 
 import re
 
-# names that a browser has
-GLOBALS = set("""AbortController AudioContext Boolean Date Error Intl JSON Map Math Number Object Option Promise RegExp
-    Set String Uint8Array BigInt Blob TextEncoder URL clearInterval clearTimeout fetch setInterval setTimeout""".split())
-WORDS = set("async await catch constructor else for function if import new of return super switch typeof while".split())
+# names that a browser has, and words of the language
+GLOBALS = set("""AbortController Array AudioContext Blob Boolean Date Error Infinity Intl JSON Map Math NaN Number
+    Object Option Promise RegExp Set String TextEncoder URL Uint8Array clearInterval clearTimeout crypto document fetch
+    globalThis localStorage location navigator performance sessionStorage setInterval setTimeout undefined
+    window""".split())
+WORDS = set("""async await break case catch class const constructor continue default delete do else export extends
+    false finally for from function get if import in instanceof let new null of return set static super switch this
+    throw true try typeof void while""".split())
 MARKS = re.compile(r"""//[^\n]*|/\*.*?\*/|"(?:[^"\\\n]|\\.)*"|'(?:[^'\\\n]|\\.)*'"""
-                   r"""|(?<=[(,=:[!&|?{};\n])\s*/(?![*/])(?:[^/\\\n\[]|\\.|\[(?:[^\]\\\n]|\\.)*\])+/[a-z]*""", re.S)
-# what no module does, and what it does instead
+                   r"""|(?:(?<=[(,=:[!&|?{};>\n])|(?<=return))\s*/(?![*/])"""
+                   r"""(?:[^/\\\n\[]|\\.|\[(?:[^\]\\\n]|\\.)*\])+/[a-z]*""", re.S)
+# what no module has
 NEVER = {
     "a value that is compared by == or !=": r"[^=!<>]==[^=]|!=[^=]",
     "a text that is read as HTML": r"(?:inner|outer)HTML\s*\+?=[^=]|insertAdjacentHTML|document\.write",
@@ -39,19 +44,23 @@ def exports_of(text):
 
 
 def undeclared(text):
-    """The names that are called, and those of constants, that nothing in the module declares."""
-    code = code_of(text)
-    known = {own for _, own, _ in imports_of(text)} | GLOBALS | WORDS
-    known |= set(re.findall(r"\b(?:const|let|function|class) (\w+)", code))
-    known |= set(re.findall(r"(?:^ +|[{,] )(?:async |static |get |set )*(\w+)\((?:[^()]|\([^()]*\))*\) \{", code, re.M))
-    known |= {it.strip() for names in re.findall(r"\b(?:const|let) \[([^\]]*)\] =", code) for it in names.split(",")}
-    # a parameter, or a part of what is taken apart, stands somewhere without being called
-    known |= set(re.findall(r"(?<![.\w])(\w+)\b(?!\s*[(.\w])", code))
-    called = set(re.findall(r"(?<![.\w])([A-Za-z_]\w*)\(", code)) - known
-    constants = set(re.findall(r"(?<![.\w\"])([A-Z][A-Z_0-9]{2,})\b(?!:)", code))
-    declared = {own for _, own, _ in imports_of(text)} | set(re.findall(r"\bconst (\w+)", code)) | GLOBALS
-    declared |= {it.strip() for names in re.findall(r"\bconst \[([^\]]*)\] =", code) for it in names.split(",")}
-    return sorted(called | (constants - declared))
+    """The names that a module uses, and that nothing in it declares: no import, constant, function or parameter."""
+    code = code_of(re.sub(r"^import .*$", "", text, flags=re.M))
+
+    def names(found):
+        return {name for part in found for name in re.findall(r"\w+", part)}
+
+    known = GLOBALS | WORDS | {own for _, own, _ in imports_of(text)}
+    known |= names(re.findall(r"\b(?:const|let) (\w+|\{[^=]*?\}|\[[^=]*?\])(?= =| of|;)", code))
+    known |= names(re.findall(r"\b(?:const|let) (\{.*?\}|\[.*?\])(?= = | of )", code))
+    known |= names(re.findall(r"\b(?:function|class) (\w+)", code))
+    # what stands in brackets before an arrow or a body
+    inside = r"\(((?:[^()]|\((?:[^()]|\([^()]*\))*\))*)\)"
+    known |= names(re.findall(rf"(?<!\bif )(?<!while )(?<!switch ){inside} (?:=>|\{{)", code))
+    # methods, and keys of objects
+    used = re.sub(r"(?:^ +|[{,] )(?:async |static |get |set )*\w+\((?:[^()]|\([^()]*\))*\) \{", " {", code, flags=re.M)
+    used = re.findall(r"(?<![.\w$])([A-Za-z_$][\w$]*)\b(?!:)", re.sub(r"\.\.\.", " ", used))
+    return sorted(set(used) - known)
 
 
 def faults(name, modules, others):
