@@ -103,6 +103,11 @@ function fillHold() {
   it("branch").focus();
 }
 
+// The address asks for no title any more.
+function forgetHold() {
+  history.replaceState(null, "", location.pathname);
+}
+
 // Shows the page that a signed-in patron is answered; whether it came.
 async function look(mine) {
   const answer = await mine.look();
@@ -191,6 +196,7 @@ it("place").addEventListener("submit", async (event) => {
   if (!isDone || it("title").value.trim() !== title) return;
   it("title").value = "";
   it("from").value = "";
+  forgetHold();
 });
 
 it("renew-all").addEventListener("click", once(renewAll));
@@ -203,6 +209,7 @@ function signOut(told) {
   const wasBusy = here.patron.signOut();
   here.patron = null;
   here.loans = [];
+  forgetHold();
   it("page").hidden = true;
   it("sign-in").hidden = false;
   for (const id of ["name", "owed", "loans", "holds"]) it(id).replaceChildren();

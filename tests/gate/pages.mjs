@@ -466,4 +466,12 @@ for (const answers of [[[60_000, 200, "{}"]], [[0, null]]]) {
 }
 is(door.leave(), false);
 is(/^[a-z0-9]{24}$/.test(newKey()) && newKey() !== newKey(), true);
+
+// ---- the words of the field, as clerks and patrons know them
+is([20, 36, 37, 38, 53, 81].map((number) => MEANINGS[number]), [
+  "This number is already in use with different details.", "Another patron is waiting for this title.", "The patron has reached the loan limit.", "The patron owes more than the limit allows.",
+  "This hold is already on the shelf, or has ended.", "The card number or key is wrong."]);
+is(["moreThanOwed", "unknown", "lentTo", "pulls", "transits", "debts", "tillDay", "lastTwenty", "putAway", "modes", "openDesk", "closeDesk", "fromDay", "confirmAmount", "yesPaid", "dont"].map((name) => TEXTS[name]), [
+  "That is more than is owed ({owed}).", "No connection. We keep trying; it will be done only once.", "{text} lent to {name}, due {due}.", "Pull list", "In transit to us", "Patrons who owe", "Till report for", "Recent", "Clear slips",
+  "Task", "Sign in", "Sign out", "Not needed before (optional)", "Take {paid} from {whom}?", "Take {paid}", "Don't"]);
 console.log(`pages: ${tried} tried`);

@@ -14,6 +14,7 @@ from lib.runs import PROGRAM
 TODAY = datetime.date.today()
 BEFORE = TODAY - datetime.timedelta(30)
 CARD = {"Ann Bell": "20000000000001", "Bo Carr": "20000000000002"}
+NEW_CARD = "20000000000004"
 LABEL = {"Rivers of the North": "30000100000010", "Salt Roads": "30000100000020",
          "Night Ferries": "30000100000030", "Winter Bees": "30000100000040"}
 
@@ -137,6 +138,13 @@ def day_by_names(driver, base):
     new_key = hands.makes_a_key("card-key")
     hands.fills("card-key")
     hands.says_yes(desk.told())
+    # the new card has a label of its own, which is scanned
+    hands.presses("New barcode: Ida Jo", "#patron-actions")
+    hands.fills("patron-barcode", barcode=NEW_CARD)
+    hands.says_yes(f"Give Ida Jo the barcode {NEW_CARD}? The old one, 20000000000003, will no longer be good.")
+    hands.begins("check-out")
+    desk.scan(NEW_CARD)
+    hands.is_told("Ida Jo")
     hands.presses("Amend: Ida Jo", "#patron-actions")
     until("her kind is known", lambda: desk.it("amend-patron-kind").get_attribute("value") == "1")
     hands.fills("amend-patron", name="Ida Joe")

@@ -417,6 +417,7 @@ def patrons_page(driver, fake):
     page.keys(Keys.ENTER)
     until("a hold", lambda: any(it.startswith('POST /patrons/1/holds {"branch":1,"title":300}') for it in fake.words()))
     until("it is told", lambda: page.told() == "Hold 7 is placed.")
+    until("the address asks for it no more", lambda: "#" not in driver.current_url)
     driver.execute_script("location.hash = '#hold=x'")
     driver.execute_script("location.hash = '#hold=400'")
     until("another title", lambda: page.it("title").get_attribute("value") == "400")
@@ -452,7 +453,7 @@ def patrons_page(driver, fake):
     driver.execute_cdp_cmd("Emulation.clearDeviceMetricsOverride", {})
     need("320 pixels", page.fits(320), True)
     page.it("sign-out").click()
-    need("nothing is kept", (page.stored(), page.it("loans").text), ({}, ""))
+    need("nothing is kept", (page.stored(), page.it("loans").text, "#" in driver.current_url), ({}, "", False))
 
 
 def calendar_of_year(driver, fake):
@@ -523,6 +524,37 @@ def alerts(driver, fake):
     until("it is there again", lambda: panel() == "1 loan is overdue.")
     desk.it("next").click()
     need("nothing of it stays", (desk.it("patron-alerts").is_displayed(), alert in driver.page_source), (False, False))
+
+
+def returns(driver, fake):
+    """A return with a fine, for a hold or for another branch looks and sounds unlike a plain one, and is told until
+    the next scan."""
+    places = {"10": ("fine 0 shelf 1", "shelf 1", False), "11": ("fine 0 ready 7 at 1 until 2999-01-02", "shelf 1", True),
+              "12": ("fine 0 transit 2", "transit 2", True), "13": ("fine 20 shelf 1", "shelf 1", True)}
+    fake.says(answers({f"{name} {copy}": reply(answer if name == "check-in" else f"{row} {copy} {rest}\n{place}")
+                       for copy, (answer, place, _) in places.items() for name in ("check-in", "copy")
+                       for row, rest in [("copy", "home 1 kind 1 price 100 title 7 Tides")]}
+                      | {"loans 13": reply("loan 5 patron 2 made 2026-03-02 due 2026-03-09 ended 2026-03-10\nend"),
+                         "borrower 2": reply("patron 2 owed 20 name Bo Carr\nkind 1")}))
+    desk = Desk(driver, fake.url, 1)
+    desk.mode("check-in")
+    driver.execute_script("""window.notes = []; const start = OscillatorNode.prototype.start;
+        OscillatorNode.prototype.start = function (at) {
+            window.notes.push([this.type, this.frequency.value]); return start.call(this, at); };""")
+
+    def look():
+        return driver.execute_script("""const of = getComputedStyle(document.getElementById('told')), heard = window.notes;
+            window.notes = []; return [of.borderTopWidth !== '0px', of.borderLeftColor, heard];""")
+    for copy in ("10", "11", "12", "13", "10"):
+        is_special = places[copy][2]
+        told = desk.scan(copy)
+        chime = [["sine", 660], ["sine", 880]] if is_special else []
+        until(f"copy {copy} is served", lambda: not desk.it("queue").is_displayed())
+        need(f"how {copy} looks and sounds", look(), [is_special, "rgb(122, 75, 0)" if is_special else "rgb(0, 92, 46)", chime])
+        time.sleep(0.5)
+        need("it stays", (desk.told(), look()[0]), (told, is_special))
+    desk.scan("99")
+    need("a refusal is something else", look(), [False, "rgb(164, 0, 0)", [["square", 220]] * 2])
 
 
 def names_in_lists(driver, fake):

@@ -5,7 +5,7 @@ import re
 # names that a browser has, and words of the language
 GLOBALS = set("""AbortController Array AudioContext Blob Boolean Date Error Infinity Intl JSON Map Math NaN Number
     Object Option Promise RegExp Set String TextEncoder URL Uint8Array clearInterval clearTimeout crypto document fetch
-    globalThis localStorage location navigator performance sessionStorage setInterval setTimeout undefined
+    globalThis history localStorage location navigator performance sessionStorage setInterval setTimeout undefined
     window""".split())
 WORDS = set("""async await break case catch class const constructor continue default delete do else export extends
     false finally for from function get if import in instanceof let new null of return set static super switch this
