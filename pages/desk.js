@@ -33,7 +33,7 @@ const branches = new Branches(localStorage);
 const forms = new EntryForms((words) => {
   here.work.press(words);
   focusScan();
-});
+}, (words) => openDesk().ask(words, () => tellUnknown(TEXTS.unknownOpening)));
 
 function desk() {
   const text = sessionStorage.getItem(DESK);

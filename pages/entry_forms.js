@@ -2,7 +2,8 @@
 
 import { newKey } from "./asking.js";
 import { COMMANDS, KINDS } from "./commands.js";
-import { formOf, isBranch, labelOf, partOfRefusal, problemOfField, wordsOfForm } from "./fields.js";
+import { formOf, isBranch, isScanned, labelOf, partOfRefusal, problemOfField, wordsOfForm } from "./fields.js";
+import { numberBy } from "./labels.js";
 import { it } from "./screen.js";
 import { showTab } from "./tabs.js";
 import { MEANINGS, TEXTS, say } from "./texts.js";
@@ -44,7 +45,8 @@ function controlOf(command, part, id) {
 class Field {
   constructor(command, part) {
     const id = `${command}-${part}`;
-    this.part = part;
+    // a number that the page knows of is no label
+    Object.assign(this, { part, isScanned: isScanned(command, part), known: "" });
     this.control = controlOf(command, part, id);
     this.problem = element("span", { id: `${id}-problem`, className: "problem" });
     const hint = element("span", { id: `${id}-hint`, className: "hint", textContent: formOf(part, command) });
@@ -69,6 +71,26 @@ class Field {
     else this.control.value = text;
   }
 
+  // Takes a number that the page knows of.
+  take(text) {
+    this.value = text;
+    this.known = this.value;
+  }
+
+  // Takes the number of the label that was scanned into it; whether it could, and nothing else was typed meanwhile.
+  async readLabel(ask) {
+    const text = this.value;
+    if (!this.isScanned || ["", this.known].includes(text)) return true;
+    const found = await numberBy(this.part, text, ask);
+    if (!found || this.value !== text) return false;
+    if (found.problem === undefined) this.take(found.number);
+    else {
+      this.tell(found.problem);
+      this.focus();
+    }
+    return found.problem === undefined;
+  }
+
   // Tells what is wrong; null where nothing is.
   tell(problem) {
     this.problem.textContent = problem ?? "";
@@ -87,17 +109,28 @@ class Field {
 }
 
 class EntryForm {
-  constructor(command, name, take) {
-    this.command = command;
+  // `take` takes the words of the form, and `ask` sends a question.
+  constructor(command, name, take, ask) {
+    Object.assign(this, { command, isRead: true });
     this.fields = COMMANDS[command].map((part) => new Field(command, part));
     this.given = element("p", { className: "given" });
     const form = element("form", { noValidate: true, autocomplete: "off" }, ...this.fields.map(({ place }) => place), element("button", { textContent: name }), this.given);
-    form.addEventListener("submit", (event) => {
+    form.addEventListener("submit", async (event) => {
       event.preventDefault();
       this.forget();
-      if (this.isRight()) take(this.words());
+      if (await this.readLabels(ask) && this.isRight()) take(this.words());
     });
     this.place = element("details", { id: `form-${command}` }, element("summary", { textContent: name }), form);
+  }
+
+  // Reads the labels that were scanned into fields; whether that is done, and isn't being done already.
+  async readLabels(ask) {
+    if (!this.isRead) return false;
+    this.isRead = false;
+    const read = [];
+    for (const field of this.fields) read.push(await field.readLabel(ask));
+    this.isRead = true;
+    return !read.includes(false);
   }
 
   words() {
@@ -119,7 +152,7 @@ class EntryForm {
     this.forget();
     this.place.open = true;
     for (const field of this.fields) {
-      field.value = String(values[field.part] ?? field.value);
+      if (field.part in values) field.take(String(values[field.part]));
       field.tell(null);
     }
     (this.fields.find(({ part }) => !(part in values)) ?? this.fields[0]).focus();
@@ -133,7 +166,7 @@ class EntryForm {
   clear() {
     this.forget();
     for (const field of this.fields) {
-      if (!isBranch(field.part)) field.value = "";
+      if (!isBranch(field.part)) field.take("");
       field.tell(null);
     }
   }
@@ -154,12 +187,12 @@ class EntryForm {
 }
 
 export class EntryForms {
-  // `take` takes the words of a form that is filled in.
-  constructor(take) {
+  // `take` takes the words of a form that is filled in, and `ask` sends a question.
+  constructor(take, ask) {
     this.forms = {};
     for (const [panel, names] of Object.entries(FORMS)) {
       for (const [command, name] of Object.entries(names)) {
-        this.forms[command] = new EntryForm(command, name, take);
+        this.forms[command] = new EntryForm(command, name, take, ask);
         it(`${panel}-forms`).append(this.forms[command].place);
       }
     }

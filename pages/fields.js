@@ -33,6 +33,9 @@ export function labelOf(command, part) {
 // Whether a part is chosen among branches.
 export const isBranch = (part) => part === "branch" || part === "home";
 
+// Whether the card of a patron, or a copy, can be scanned into a field; whoever enters a new one gives its number.
+export const isScanned = (command, part) => ["patron", "copy"].includes(part) && command !== undefined && !["patron", "acquire"].includes(command);
+
 // What a part must be; a branch that is chosen and a week that is ticked can be nothing else.
 export function formOf(part, command) {
   const limits = limitsOf(command, part);
@@ -43,7 +46,7 @@ export function formOf(part, command) {
     case "Barcode": return TEXTS.barcodeForm;
     case "Name": return TEXTS.nameForm;
     case "Mask": return TEXTS.maskForm;
-    default: return limits ? say(TEXTS.numberFromTo, { least: limits[0], most: limits[1] }) : TEXTS.numberForm;
+    default: return limits ? say(isScanned(command, part) ? TEXTS.numberOrLabel : TEXTS.numberFromTo, { least: limits[0], most: limits[1] }) : TEXTS.numberForm;
   }
 }
 

@@ -367,6 +367,7 @@ export const TEXTS = {
   partRenewals: "Renewals",
   partText: "Title",
   numberFromTo: "a number from {least} to {most}",
+  numberOrLabel: "a number from {least} to {most}, or a scanned label",
   amountUpTo: "an amount such as 2.50, up to {most}",
   nameForm: "1 to 120 bytes, with no hyphen at the beginning",
   maskForm: "at least one open day",

@@ -349,6 +349,7 @@ export const TEXTS = {
   partRenewals: "Verlängerungen",
   partText: "Titel",
   numberFromTo: "eine Zahl von {least} bis {most}",
+  numberOrLabel: "eine Zahl von {least} bis {most}, oder ein gescanntes Etikett",
   amountUpTo: "ein Betrag wie 2.50, höchstens {most}",
   nameForm: "eine Angabe von 1 bis 120 Bytes ohne Bindestrich am Anfang",
   maskForm: "mindestens ein offener Tag",

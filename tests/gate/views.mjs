@@ -3,9 +3,10 @@ import { deepStrictEqual as same } from "node:assert";
 import { Branches } from "../../pages/branches.js";
 import { once } from "../../pages/clicks.js";
 import { COMMANDS, QUESTIONS } from "../../pages/commands.js";
-import { formOf, labelOf as labelOfPart, partOfRefusal, problemOfField, wordsOfForm } from "../../pages/fields.js";
+import { formOf, isScanned, labelOf as labelOfPart, partOfRefusal, problemOfField, wordsOfForm } from "../../pages/fields.js";
 import { Idle } from "../../pages/idle.js";
 import { problemOfWords } from "../../pages/misread.js";
+import { numberBy } from "../../pages/labels.js";
 import { lookFirst } from "../../pages/opening.js";
 import { readReply } from "../../pages/replies.js";
 import { alertsOf } from "../../pages/alerts.js";
@@ -142,6 +143,20 @@ is(problemOfField("copy", "x"), "This should be a number from 1 to 9999999.");
 is(wordsOfForm("acquire", { copy: "10", title: "100", kind: "1", home: "2", price: "25,00", text: "Salt Roads" }), ["acquire", "10", "100", "1", "2", "2500", "Salt Roads"]);
 is([["acquire", 20], ["patron", 20], ["branch", 20], ["acquire", 10], ["week", 10], ["week", 22], ["grace", 16], ["waive", 60], ["patron", 17], ["withdraw", 31], ["close-day", 0]].map((of) => partOfRefusal(...of)),
   ["copy", "patron", "branch", "home", "branch", "mask", "copy-kind", "amount", "kind", null, null]);
+
+// ---- a label that is scanned into a field is first a barcode, then a prefix, and a bare number is of what the field asks for
+is([["waive", "patron"], ["missing", "copy"], ["patron", "patron"], ["acquire", "copy"], ["waive", "amount"], [undefined, "copy"]].map((of) => isScanned(...of)), [true, true, false, false, false, false]);
+is([formOf("copy", "missing"), formOf("copy", "acquire")], ["a number from 1 to 9999999, or a scanned label", "a number from 1 to 9999999"]);
+const labels = { 20000000000002: "patron 2", 30000100000020: "copy 20", 7: "copy 70" };
+const numbered = async (kind, text, answer = ([, barcode]) => (labels[barcode] ? { reply: readReply(labels[barcode]), text: labels[barcode] } : { refusal: 18 })) => {
+  const found = await numberBy(kind, text, async (words) => answer(words));
+  return found && Object.values(found)[0];
+};
+is(await Promise.all([["patron", "20000000000002"], ["copy", "30000100000020"], ["patron", "P4"], ["patron", "4"], ["copy", "7"], ["copy", "30000100000099"], ["copy", "20000000000002"], ["patron", "C4"], ["patron", "7"], ["copy", "1.5"]]
+  .map(([kind, text]) => numbered(kind, text))), ["2", "20", "4", "4", "70", "Nothing has this barcode.", "This is a patron's card, but a copy is expected.", "This is a copy, but a patron's card is expected.",
+  "This is a copy, but a patron's card is expected.", "1.5"]);
+is([await numbered("copy", "7", () => null), await numbered("copy", "7", () => ({ fault: 92 })), await numbered("copy", "7", () => ({ reply: readReply("ok"), text: "ok" }))],
+  [null, "Fault 92: The desk is closed. Send it again later; it will be done only once.", "This page can't read the answer (status 200). It is not known whether the request was carried out."]);
 
 // ---- the machine remembers where it stands and the names of the branches, of which those in the texts go before
 const machineOfTown = new Kept();

@@ -449,7 +449,20 @@ def patrons_page(driver, fake):
     need("what is saved", (kind, text.count("BEGIN:VEVENT"), "DTSTART;VALUE=DATE:20260309\r\nSUMMARY:Due: Title 13\r\n" in text), ("text/calendar;charset=utf-8", 4, True))
     for pixels in (360, 1280):
         page.width(pixels, 900)
-        need(f"what is too small at {pixels} pixels", driver.execute_script("return [...document.querySelectorAll('button, input')].filter((it) => it.checkVisibility() && it.getBoundingClientRect().height < 44).map((it) => it.outerHTML)"), [])
+        need(f"what is too small at {pixels} pixels", driver.execute_script("""
+            const small = ({height, width}) => height < 44 || width < 44;
+            return [...document.querySelectorAll('button, input')].filter((it) => it.checkVisibility())
+                .filter((it) => small(it.getBoundingClientRect())).map((it) => it.outerHTML)"""), [])
+    need("what doesn't show that it has the focus", driver.execute_script("""
+        const isSeen = (it) => { it.focus({focusVisible: true}); const of = getComputedStyle(it);
+            return of.outlineStyle === 'solid' && parseFloat(of.outlineWidth) >= 3; };
+        return [...document.querySelectorAll('button, input')].filter((it) => it.checkVisibility() && !isSeen(it))
+            .map((it) => it.outerHTML)"""), [])
+    need("headings in order", [it.tag_name for it in driver.find_elements(By.CSS_SELECTOR, "h1, h2, h3, h4")],
+         ["h1", "h2", "h3", "h3", "h3"])
+    need("forms with more than one button that stands out", driver.execute_script("""
+        return [...document.forms].filter((form) => form.querySelectorAll('button:not([type=button])').length > 1)
+            .map((form) => form.id)"""), [])
     driver.execute_cdp_cmd("Emulation.clearDeviceMetricsOverride", {})
     need("320 pixels", page.fits(320), True)
     page.it("sign-out").click()
@@ -762,6 +775,60 @@ def labels_and_charges(driver, fake):
     until("the copy with its label", lambda: "30000100000020" in desk.it("list-rows").text)
     press("Drop the barcode: Salt Roads")
     confirm("Drop the barcode 30000100000020 of Salt Roads?", "drop-barcode 30000100000020")
+
+
+def labels_in_forms(driver, fake):
+    """A label can be scanned into a form in the place of a number; one that is something else's is told at its field,
+    and what the page filled in isn't looked up."""
+    roads, late = "copy 20 home 1 kind 1 price 1200 title 200 Salt Roads\nshelf 1", threading.Event()
+    asked = []
+    carr = "patron 2 owed 130 name Bo Carr"
+    table = answers({"find-barcode 30000100000020": reply("copy 20", late), "copy 20": reply(roads),
+                     "find-barcode 20000000000002": reply("patron 2"), "missing 20": reply("fine 0 price 0"),
+                     "debts 0": reply(f"{carr}\nend"), "borrower 2": reply(f"{carr}\nkind 1")})
+
+    def answer(what):
+        asked.extend([what] if what.startswith("find-barcode") else [])
+        return table(what)
+    fake.says(answer)
+    desk = Desk(driver, fake.url, 1)
+    desk.tab("catalogue")
+    form = desk.it("form-missing")
+    form.find_element(By.TAG_NAME, "summary").click()
+    for label, problem in (("20000000000002", "This is a patron's card, but a copy is expected."),
+                           ("30000100000099", "Nothing has this barcode."),
+                           ("", "This should be a number from 1 to 9999999, or a scanned label.")):
+        desk.type("missing-copy", label)
+        desk.it("missing-copy").send_keys(Keys.ENTER)
+        until(problem, lambda: desk.it("missing-copy-problem").text == problem)
+        need("the focus stays", desk.focus(), "missing-copy")
+    desk.type("missing-copy", "30000100000020")
+    desk.keys(Keys.ENTER, Keys.ENTER)
+    late.set()
+    question = "Report Salt Roads, copy 20, as missing?"
+    until(question, lambda: desk.told() == question)
+    need("its number", desk.it("missing-copy").get_attribute("value"), "20")
+    time.sleep(0.7)
+    desk.it("again").click()
+    until("it is reported", lambda: "missing 20" in fake.words() and not desk.it("queue").is_displayed())
+    need("once", fake.words().count("missing 20"), 1)
+    need("and the form is empty", desk.it("missing-copy").get_attribute("value"), "")
+    # a card in the place of a patron, whose amount is still to be typed
+    desk.tab("patrons")
+    form = desk.it("form-waive")
+    form.find_element(By.TAG_NAME, "summary").click()
+    desk.type("waive-patron", "20000000000002")
+    desk.keys(Keys.ENTER)
+    until("the next field", lambda: desk.focus() == "waive-amount")
+    need("the patron", desk.it("waive-patron").get_attribute("value"), "2")
+    # what a row fills in is no label
+    desk.press("debts")
+    until("a row", lambda: len(rows(desk)) == 1)
+    asked.clear()
+    driver.find_element(By.CSS_SELECTOR, '#list-rows [aria-label="Waive: Bo Carr"]').click()
+    form.find_element(By.CSS_SELECTOR, "form > button").click()
+    until("it is asked about", lambda: desk.told() == "Waive 1.30 for Bo Carr?")
+    need("nothing is looked up", asked, [])
 
 
 def lends_alone(driver, fake):
