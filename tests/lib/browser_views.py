@@ -454,6 +454,7 @@ def patrons_page(driver, fake):
             return [...document.querySelectorAll('button, input')].filter((it) => it.checkVisibility())
                 .filter((it) => small(it.getBoundingClientRect())).map((it) => it.outerHTML)"""), [])
     need("what doesn't show that it has the focus", driver.execute_script("""
+        document.activeElement.blur();
         const isSeen = (it) => { it.focus({focusVisible: true}); const of = getComputedStyle(it);
             return of.outlineStyle === 'solid' && parseFloat(of.outlineWidth) >= 3; };
         return [...document.querySelectorAll('button, input')].filter((it) => it.checkVisibility() && !isSeen(it))
