@@ -14,7 +14,7 @@ from room import TOP
 from lib.checking import check, run_script
 from reference.outer_forms import WORDS
 
-MODULES = {"pages": 328, "hands": 486, "views": 63}  # how many comparisons the modules of these names make
+MODULES = {"pages": 328, "hands": 486, "views": 64}  # how many comparisons the modules of these names make
 
 SVG = 'xmlns="http://www.w3.org/2000/svg"'  # it says what the file is, and nothing is loaded from there
 
@@ -82,6 +82,15 @@ def readable():
     check("colours that have no name", others, [])
 
 
+def spoken(name, text):
+    """The words for people that stand in a page or a script itself, and not in the texts of the pages."""
+    if name.endswith(".html"):
+        named = re.findall(r'\s(?:placeholder|aria-label|alt|title|label)="[^"]*"', text)
+        return re.sub(r"<[^>]*>", " ", text).split() + named
+    code = re.sub(r"^import .*$|//.*$", "", text, flags=re.M)
+    return re.findall(r'"[^"\n]*(?:[A-Z][a-z]+ [A-Za-z]|[a-z][.!?] )[^"\n]*"|"[A-Z][a-z]+[.!?]"', code)
+
+
 def loaded(script):
     """A script of a page, and those that it loads."""
     found, left = [], [script]
@@ -112,6 +121,10 @@ def main():
         # with the header that the servers before it send, a browser runs and loads nothing else
         text = read(f"pages/{name}").replace(SVG, "")
         check(f"{name} names another origin", re.findall(r"(?:https?:)?//[a-z][^\s]*\.[a-z]+", text), [])
+    samples = {"a.html": '<p title="Day">Sign <b data-text="x"></b></p>', "a.js": 'tell("No connection", "checked in");\ntell("Gone.");'}
+    check("texts of a page and of a script", [spoken(*it) for it in samples.items()], [["Sign", ' title="Day"'], ['"No connection"', '"Gone."']])
+    for name in (*pages, *(it for it in scripts if not it.startswith("texts"))):
+        check(f"the texts of {name} itself", spoken(name, read(f"pages/{name}")), [])
     for name in pages:
         text = read(f"pages/{name}")
         check(f"{name} has a script or a style of its own within", re.findall(r"<style|<script(?! type=\"module\" src=)|\son\w+=|\sstyle=", text), [])

@@ -53,6 +53,7 @@ await pause(1);
 searches[0].done("patron 1 owed 0 name Ann Bell\nend");
 await pause(1);
 is([finds, searches[0].signal.aborted], [[[[9], 9, 0]], true]);
+is(new Search().pause, 250);
 search.more();
 is(searches[2].words, ["find-patrons", 9, "bella"]);
 searches[2].done("patron 12 owed 0 name Bella\nend");
