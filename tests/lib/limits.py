@@ -4,6 +4,8 @@ docs/operations. They are tried by tests/tools/browser.py."""
 import contextlib
 import os
 import shutil
+import socket
+import ssl
 import stat
 import subprocess
 import threading
@@ -130,6 +132,31 @@ def guesser(driver, base):
     page.it("again").click()
     until("it is sent by the clerk's word", lambda: page.told() == "copy 99: There is no such copy.")
     page.go_on()
+
+
+@contextlib.contextmanager
+def open_requests(base, many):
+    """So many requests to a desk from one address, whose bodies are still to come."""
+    host, port = base.removeprefix("https://").split(":")
+    context = ssl._create_unverified_context()
+    fields = {"Host": host, "Desk-Key": DESK_KEY, "Request-Key": "slow", "Content-Length": 9}
+    head = "POST /desk HTTP/1.1\r\n" + "".join(f"{name}: {value}\r\n" for name, value in fields.items()) + "\r\n"
+    with contextlib.ExitStack() as stack:
+        for _ in range(many):
+            plain = stack.enter_context(socket.create_connection((host, int(port)), timeout=30))
+            stack.enter_context(context.wrap_socket(plain)).sendall(head.encode())
+        time.sleep(0.5)
+        yield
+
+
+def many_desks(base):
+    """Several desks behind one address aren't too many for nginx; far more are."""
+    asked = ("curl", "-s", "-k", "-o", os.devnull, "-w", "%{http_code}", "-H", f"Desk-Key: {DESK_KEY}",
+             "-H", "Request-Key: q", "-d", '["today"]', f"{base}/desk")
+    for many, status in ((40, "200"), (70, "429")):
+        with open_requests(base, many):
+            told = subprocess.run(asked, capture_output=True, text=True, timeout=60, check=False).stdout
+            need(f"an answer beside {many} others", told, status)
 
 
 def no_key_is_logged(place):

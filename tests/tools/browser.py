@@ -650,6 +650,8 @@ def tried(behind, pictures):
                 quick(driver, base)
                 limits.guesser(driver, base)
             if behind is behind_nginx:
+                with behind_nginx(place, serving.port) as base:
+                    limits.many_desks(base)
                 with behind_nginx(place, serving.port, allowed="") as base:
                     strangers(driver, base)
             else:
