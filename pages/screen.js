@@ -159,14 +159,15 @@ export function print(part) {
   window.print();
 }
 
-export function showWanted(patron) {
+// Shows what is wanted next, and for whom: by the name once the page has come.
+export function showWanted(patron, name) {
   const asked = {
     patron: TEXTS.askPatron,
     copy: { "check-in": TEXTS.askCopyIn, "renew": TEXTS.askRenewed }[mode()] ?? TEXTS.askCopy,
     amount: TEXTS.askAmount,
     title: TEXTS.askTitle,
   }[wanted(mode(), patron)];
-  it("asked").textContent = say(asked, { patron });
+  write(it("asked"), say(asked, { whose: say(name === null ? TEXTS.askedOf : TEXTS.askedOfName, { patron, name }) }));
   it("scan").inputMode = wanted(mode(), patron) === "amount" ? "decimal" : "text";
   it("next").hidden = patron === null;
 }

@@ -45,7 +45,11 @@ export class Work {
       ...screen,
       told: (text, isWrong = false, isSpecial = false) => (isWrong || isSpecial || !this.isOver) && screen.told(text, isWrong, isSpecial),
       noted: (...what) => this.isOver || screen.noted(...what),
-      visit: (visit) => screen.visit(this.isHere(visit) ? visit : null),
+      visit: (visit) => {
+        const shown = this.isHere(visit) ? visit : null;
+        screen.visit(shown);
+        screen.wanted(this.expected, shown && shown.page.name);
+      },
     };
   }
 
@@ -103,8 +107,8 @@ export class Work {
     this.showTurn();
   }
 
+  // Shows whose turn it is, and what is wanted next.
   showTurn() {
-    this.screen.wanted(this.expected);
     this.service.showVisit();
   }
 

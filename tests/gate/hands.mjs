@@ -56,7 +56,7 @@ function desk(storage = new Kept(), day = { now: dayOf, look: async () => {}, be
     toldMore: (text) => told.push([plain(text), true]),
     noted: (what, text) => noted.push(plain(`${what}: ${text}`)),
     waiting: (queue) => { waiting = queue.waiting.map(labelOf).map(plain); },
-    wanted: (patron) => { wanted = patron; },
+    wanted: (patron, name) => { wanted = name === null ? patron : `${name}, ${patron}`; },
     sought: (text) => work.expected === null && sought.push(text) > 0,
     slip: (slip) => slips.push(slipLines(slip).map(plain)),
     visit: (visit) => { shown = visit; if (visit) receipts.push([receiptHead(visit.receipt), ...visit.receipt.rows].map(plain)); },
@@ -92,6 +92,10 @@ await until(() => isQuiet(it));
 is(bodies(sent), ["page 4", "check-out 4 31 1", "page 4", "check-out 4 32 1", "page 4"]);
 is(new Set(sent.map(([, key]) => key)).size, 5);
 is([it.unknown(), it.waiting(), it.work.queue.isStopped], [0, [], false]);
+// whose turn it is is told by the number until the page has come, and by the name then; nobody's after Next patron
+is(it.wanted(), "Di Eck, 4");
+it.work.nextPatron();
+is(it.wanted(), null);
 is(it.receipts.at(-1), [`Di Eck, ${dayOf}, branch 1`, "Maps, Old and New, due 2026-03-09", "Winter Bees, due 2026-03-16"]);
 
 // ---- fifty scans at once, over a network that loses answers, cuts them off and tells 502: each is done once, in its order

@@ -327,7 +327,7 @@ def loaded_anew(driver, fake):
     desk.keys("4", Keys.ENTER)
     until("its page", lambda: desk.it("patron").is_displayed())
     desk.mode("pay")
-    need("while paying", again(), ("pay", "Patron 4: type the amount paid, such as 2.50."))
+    need("while paying", again(), ("pay", "Di Eck, patron 4: type the amount paid, such as 2.50."))
     desk.keys("0.50", Keys.ENTER)
     until("it is paid", lambda: "pay-at 4 50 1" in fake.words())
     desk.mode("renew")
