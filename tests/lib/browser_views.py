@@ -571,6 +571,35 @@ def returns(driver, fake):
     need("a refusal is something else", look(), [False, "rgb(164, 0, 0)", [["square", 220]] * 2])
 
 
+def two_columns(driver, fake):
+    """From 1,000 pixels on the person stands beside the work, also where the page is scrolled; below that all is in one
+    column."""
+    many = "\n".join(f"hold {it} copy {it + 100} title {it} Title {it}" for it in range(1, 61))
+    fake.says(answers({"check-in 20": reply("fine 0 ready 1 at 1 until 2999-01-02"), "pulls": reply(f"{many}\nend"),
+                       "page 2": reply("patron 2 owed 40 name Bo Carr\nhold 7 at 1 ready title 8 Maps")}))
+    desk = Desk(driver, fake.url, 1)
+    desk.mode("check-in")
+    desk.scan("20")
+    until("a slip", lambda: desk.it("slips").is_displayed())
+    desk.mode("check-out")
+    desk.scan("2")
+    until("a person", lambda: desk.it("patron").is_displayed())
+    desk.press("pulls")
+    until("a long page", lambda: len(rows(desk)) == 60)
+    edges = """return [...arguments].map((id) => document.getElementById(id).getBoundingClientRect())
+        .map(({left, right, top}) => [left, right, top])"""
+    for pixels, is_beside in ((360, False), (999, False), (1000, True), (1280, True)):
+        desk.width(pixels, 700)
+        driver.execute_script("scrollTo(0, 0)")
+        (left, right, top), *work = driver.execute_script(edges, "person", "scanning", "told", "modes", "slips", "tabs", "list-table")
+        need(f"who is beside the work at {pixels} pixels", [it[1] <= left for it in work], [is_beside] * 6)
+        need("each is on the screen", (right <= pixels, max(it[1] for it in work) <= pixels), (True, True))
+        driver.execute_script("document.getElementById('list-rows').lastElementChild.scrollIntoView()")
+        top = driver.execute_script(edges, "person")[0][2]
+        need(f"whether who it is stays in sight at {pixels} pixels", 0 <= top < 350, is_beside)
+    driver.execute_cdp_cmd("Emulation.clearDeviceMetricsOverride", {})
+
+
 def names_in_lists(driver, fake):
     """Overdue loans, the hold shelf and who waits have the names of the patrons, each asked for once. They come after
     the rows, whose buttons stay; the list is sorted, saved and printed with them."""

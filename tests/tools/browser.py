@@ -527,7 +527,7 @@ def patron(driver, base, serving):
     # a hold from today on, and one from a day to come
     place_from(page, "300", "2", "03252026")
     until("no day to come", lambda: page.told() == REFUSALS["23"])
-    place_from(page, "300", "2", "04012026")
+    place_from(page, "300", "harbour", "04012026")
     until("a hold from a day on", lambda: page.told() == "Hold 5 is placed.")
     until("its day", lambda: page.it("holds").text.replace("\n", " ") == "Maps, Old and New waiting from 2026-04-01, to be picked up at Harbour Cancel")
     until("the fields are empty again", lambda: (page.it("title").get_attribute("value"), page.it("from").get_attribute("value")) == ("", ""))

@@ -836,6 +836,7 @@ def another_day(driver, fake):
 
 
 PARTS = (views.tabs, views.searching, views.acting, views.alerts, views.returns, views.names_in_lists,
+         views.two_columns,
          views.labels_and_charges, views.labels_in_forms, views.lends_alone, views.left_alone,
          views.icon, views.on_paper, views.german, views.for_everybody, views.patrons_page, views.calendar_of_year, lists, past_their_day,
          slips, fast_scans, refused_scans,
