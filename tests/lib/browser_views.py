@@ -813,8 +813,9 @@ def labels_in_forms(driver, fake):
     roads, late = "copy 20 home 1 kind 1 price 1200 title 200 Salt Roads\nshelf 1", threading.Event()
     asked = []
     carr = "patron 2 owed 130 name Bo Carr"
-    table = answers({"find-barcode 30000100000020": reply("copy 20", late), "copy 20": reply(roads),
-                     "find-barcode 20000000000002": reply("patron 2"), "missing 20": reply("fine 0 price 0"),
+    table = answers({"find-barcode 30000100000020": reply("copy 20"), "copy 20": reply(roads),
+                     "find-barcode 30": refusal(18, late), "copy 30": reply(roads.replace("copy 20", "copy 30")),
+                     "find-barcode 20000000000002": reply("patron 2"), "missing 30": reply("fine 0 price 0"),
                      "debts 0": reply(f"{carr}\nend"), "borrower 2": reply(f"{carr}\nkind 1")})
 
     def answer(what):
@@ -832,16 +833,24 @@ def labels_in_forms(driver, fake):
         desk.it("missing-copy").send_keys(Keys.ENTER)
         until(problem, lambda: desk.it("missing-copy-problem").text == problem)
         need("the focus stays", desk.focus(), "missing-copy")
-    desk.type("missing-copy", "30000100000020")
-    desk.keys(Keys.ENTER, Keys.ENTER)
-    late.set()
-    question = "Report Salt Roads, copy 20, as missing?"
-    until(question, lambda: desk.told() == question)
-    need("its number", desk.it("missing-copy").get_attribute("value"), "20")
+    # a label, and then a number by somebody who is in a hurry
+    for text, number, keys in (("30000100000020", "20", [Keys.ENTER]), ("30", "30", [Keys.ENTER, Keys.ENTER])):
+        desk.type("missing-copy", text)
+        desk.keys(*keys)
+        time.sleep(0.3)
+        late.set()
+        question = f"Report Salt Roads, copy {number}, as missing?"
+        until(question, lambda: desk.told() == question)
+        need("its number", desk.it("missing-copy").get_attribute("value"), number)
+        time.sleep(0.3)
+        need("it is asked about once", desk.items("waiting"), [])
+        if number == "20":
+            desk.go_on()
+            late.clear()
     time.sleep(0.7)
     desk.it("again").click()
-    until("it is reported", lambda: "missing 20" in fake.words() and not desk.it("queue").is_displayed())
-    need("once", fake.words().count("missing 20"), 1)
+    until("it is reported", lambda: "missing 30" in fake.words() and not desk.it("queue").is_displayed())
+    need("and the other one isn't", "missing 20" in fake.words(), False)
     need("and the form is empty", desk.it("missing-copy").get_attribute("value"), "")
     # a card in the place of a patron, whose amount is still to be typed
     desk.tab("patrons")
