@@ -7,9 +7,12 @@ function counted(count, one, some) {
   return [count === 1 ? one : say(some, { count })];
 }
 
-// The sentences of a patron's page, at a branch and on the library's day, which is null where it isn't told yet.
+// Whether a loan is late on the library's day, which is null where it isn't told yet.
+export const isLate = ({ due }, day) => day !== null && due < day;
+
+// The sentences of a patron's page, at a branch and on the library's day.
 export function alertsOf({ loans, holds }, branch, day) {
   const ready = holds.filter((hold) => hold.state === "ready" && hold.branch === Number(branch));
-  const late = loans.filter(({ due }) => day !== null && due < day);
+  const late = loans.filter((loan) => isLate(loan, day));
   return [...counted(ready.length, TEXTS.oneReadyHere, TEXTS.readyHere), ...counted(late.length, TEXTS.oneLate, TEXTS.someLate)];
 }

@@ -1,7 +1,7 @@
 // What the desk's page shows.
 
 import { buttonsOf, renew } from "./action_buttons.js";
-import { alertsOf } from "./alerts.js";
+import { alertsOf, isLate } from "./alerts.js";
 import { today } from "./days.js";
 import { write } from "./isolating.js";
 import { receiptEnd, receiptHead } from "./receipt.js";
@@ -107,14 +107,16 @@ export function showWaiting(queue) {
   it("throw-away").hidden = !waits;
 }
 
-// The loans and holds of a patron, each with what can be done with it.
-function linesOf({ page, untils }, act) {
-  const lineOf = (text, row, actions) => {
+// The loans and holds of a patron, each with what can be done with it; what is overdue or ready stands out.
+function linesOf({ page, untils, receipt: { day } }, act) {
+  const lineOf = (text, row, actions, look) => {
     const made = line(text);
+    made.firstChild.className = look;
     made.append(...buttonsOf(actions, row.text, act));
     return made;
   };
-  return [...page.loans.map((loan) => lineOf(loanLine(loan), loan, actionsOfLoan(loan))), ...page.holds.map((hold) => lineOf(holdLine(hold, untils), hold, actionsOfHold(hold, page)))];
+  const loans = page.loans.map((loan) => lineOf(loanLine(loan), loan, actionsOfLoan(loan), isLate(loan, day) ? "late" : ""));
+  return [...loans, ...page.holds.map((hold) => lineOf(holdLine(hold, untils), hold, actionsOfHold(hold, page), hold.state === "ready" ? "ready" : ""))];
 }
 
 // Shows the patron at the desk and the receipt, null where nobody was there yet; `act` does what is pressed.

@@ -531,6 +531,8 @@ def alerts(driver, fake):
     desk.keys("2", Keys.ENTER)
     until("it is told", lambda: desk.told() == f"Patron 2, Bo Carr: 1 on loan, 2 on hold, owes 0.00. {alert}")
     need("in the panel too", panel(), alert)
+    need("what stands out in it", driver.execute_script(
+        "return [...document.querySelectorAll('#patron-lines li > span')].map((it) => it.className)"), ["late", "ready", "ready"])
     until("it is spoken once", lambda: driver.execute_script("return window.spoken") == [desk.told()])
     desk.keys("20", Keys.ENTER)
     until("what is ready is taken", lambda: panel() == "1 loan is overdue.")
