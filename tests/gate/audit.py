@@ -70,6 +70,8 @@ ON_THE_GROUND = [
 
 CLOSED = "INSERT INTO closed_days VALUES ({}, {})"
 BARCODE = "INSERT INTO barcodes VALUES ({}, {}, '{}')"
+PATRON = "INSERT INTO patrons VALUES ({}, 1, 'cardkey00009', 'Ann', 0)"
+KEPT = "INSERT INTO kept VALUES ({}, '{}', 'cancel-hold 3', 'ok')"
 LOAN = "INSERT INTO loans3 VALUES ({}, {}, 1, 1, 20529, 20535, 6, 1, 20, 100, NULL, 0)"
 
 # What is written into the busy library, and the line of its audit.
@@ -175,6 +177,20 @@ DAMAGE = [
     (["INSERT INTO transits VALUES (99, 1, NULL)"], "unsound reference transits 99"),
     (["UPDATE lines SET loan = 9 WHERE sort = 0"], "unsound reference lines 1"),
     (["UPDATE lines SET patron = 9", "UPDATE patrons SET owed = 0"], "unsound reference lines 1"),
+    # the desk is no patron, and one patron's requests are told once; the least patron is told
+    ([KEPT.format(9, "k1")], "unsound reference kept 9"),
+    ([KEPT.format(3, "k1"), KEPT.format(3, "k2"), KEPT.format(2, "k1")], "sound"),
+    ([KEPT.format(9, "k1"), KEPT.format(8, "k3"), KEPT.format(8, "k2"), KEPT.format(1, "k4")],
+     "unsound reference kept 8"),
+    (["UPDATE kept SET caller = 9 WHERE key = 'a1'"], "unsound reference kept 9"),
+    (["UPDATE kept SET caller = 9"], "unsound reference kept 9"),
+    (["UPDATE kept SET caller = 3"], "sound"),
+    ([PATRON.format(7), KEPT.format(7, "k1")], "sound"),
+    ([PATRON.format(7), KEPT.format(7, "k1"), "DELETE FROM patrons WHERE patron = 7"], "unsound reference kept 7"),
+    ([KEPT.format(9, "k1"), "UPDATE lines SET loan = 9 WHERE sort = 0"], "unsound reference lines 1"),
+    ([KEPT.format(9, "k1"), BARCODE.format(0, 8, "A1")], "unsound reference kept 9"),
+    ([KEPT.format(9, "k1"), "INSERT INTO notes VALUES (2, 9, NULL)"], "unsound reference kept 9"),
+    ([KEPT.format(9, "k1"), "UPDATE meta SET next_loan = 9"], "unsound reference kept 9"),
     ([BARCODE.format(1, 99, "A1")], "unsound reference barcodes 99"),
     ([BARCODE.format(0, 10, "A1")], "unsound reference barcodes 10"),
     ([BARCODE.format(1, 10, "A1"), BARCODE.format(0, 3, "A2")], "sound"),
@@ -270,7 +286,8 @@ FAULTS = [
     (["INSERT INTO holds2 VALUES (-1, 1, 100, 1, 3, NULL, NULL, NULL)"], "fault 93"),
     (["INSERT INTO transits VALUES (0, 1, NULL)"], "fault 93"),
     (["INSERT INTO lines VALUES (-2, 1, 20529, 0, 5, 1)"], "fault 93"),
-    (["INSERT INTO kept VALUES (-1, 'k1', 'page 1', 'ok')"], "fault 93"),
+    ([KEPT.format(-1, "k1")], "fault 93"),
+    ([KEPT.format(10_000_000, "k1")], "fault 93"),
     ([OLD_RULE.format(1, 1), "UPDATE rules SET period = 0"], "fault 93"),
     ([OLD_LOAN.format(1), "UPDATE loans SET due = 84006"], "fault 93"),
     ([OLD_LOAN.format(0)], "fault 93"),
@@ -337,6 +354,10 @@ FAR = [
     ([f"UPDATE transits SET goal = 9 WHERE copy = {LAST}"], f"unsound reference transits {LAST}"),
     ([f"UPDATE lines SET loan = {LAST_LOAN + 1} WHERE line = {LAST_LINE - 1}"],
      f"unsound reference lines {LAST_LINE - 1}"),
+    # after all others; after those of one caller, who has many; and before all
+    ([f"UPDATE kept SET caller = {LAST + 1} WHERE caller = {LAST}"], f"unsound reference kept {LAST + 1}"),
+    ([KEPT.format(FIRST - 1, "k1")], f"unsound reference kept {FIRST - 1}"),
+    ([KEPT.format(FIRST - 1, "k1"), "DELETE FROM kept WHERE caller < 2"], f"unsound reference kept {FIRST - 1}"),
     ([f"UPDATE barcodes SET number = {LAST + 1} WHERE sort = 1 AND number = {LAST}"],
      f"unsound reference barcodes {LAST + 1}"),
     ([f"UPDATE notes SET branch = 9 WHERE line = {LAST_LINE}"], f"unsound reference notes {LAST_LINE}"),
@@ -364,7 +385,7 @@ FAR = [
 WAITING, READY = 0, 1
 FINE, PRICE, CHARGE = 0, 1, 4
 
-# Of each table, in the order of an audit: the last column of its key, and which table's key each column names.
+# Of each table, in the order of an audit: the last number of its key, and which table's key each column names.
 NAMED = (
     ("closed_days", "day", {"branch": "branches"}),
     ("rules3", "copy_kind", {"kind": "kinds"}),
@@ -374,6 +395,7 @@ NAMED = (
     ("holds2", "hold", {"patron": "patrons", "title": "titles", "branch": "branches", "copy": "copies"}),
     ("transits", "copy", {"copy": "copies", "goal": "branches", "hold": "holds2"}),
     ("lines", "line", {"patron": "patrons", "loan": "loans3"}),
+    ("kept", "caller", {"NULLIF(caller, 0)": "patrons"}),
     ("barcodes", "number", {}),
     ("notes", "line", {"line": "lines", "branch": "branches"}),
 )
@@ -530,15 +552,17 @@ LOAN_AND_TITLE = 320
 
 
 def the_past(ground, folder):
-    """Beyond the memory of opening the file, an audit keeps loans and titles, and nothing of what is kept of
-    requests."""
+    """Beyond the memory of opening the file, an audit keeps loans and titles, and of what is kept of requests one row
+    for each caller."""
     path, out = os.path.join(folder, "past.db"), os.path.join(folder, "past.txt")
     shutil.copy(ground, path)
     with closing(sqlite3.connect(path)) as conn, conn:
         each = range(1, PAST + 1)
         conn.executemany("INSERT INTO loans3 VALUES (?, 10, 1, 1, 20514, 20521, 6, 1, 20, 100, 20520, 0)", ((n,) for n in each))
         conn.executemany("INSERT INTO titles VALUES (?, ?)", ((1_000 + n, f"A title of number {n}") for n in each))
-        conn.executemany("INSERT INTO kept VALUES (0, ?, 'check-out 1 10 1', ?)", ((f"k{n}", f"loan {n} due 2026-03-09") for n in each))
+        for caller in (0, 1):
+            conn.executemany(f"INSERT INTO kept VALUES ({caller}, ?, 'check-out 1 10 1', ?)",
+                ((f"k{n}", f"loan {n} due 2026-03-09") for n in each))
         conn.execute("UPDATE meta SET next_loan = ?", (PAST + 1,))
     least, status = memory_of(["report", path, "shelf", "2"], out)
     check("a report of no row", status, 0)
@@ -588,6 +612,7 @@ COLUMNS = {
     "copies": {"condition": (0, 0, 1, 2), "title": (100, 200, 300, 400)},
     "lines": {"patron": (1, 2, 3, 9), "sort": (0, 1, 2, 3, 4), "amount": (1, 20, 30, 50, 100), "loan": (None, 1, 2, 9)},
     "patrons": {"owed": (0, 20, 50, 70, 100), "kind": (1, 1, 9)},
+    "kept": {"caller": (0, 1, 3, 9)},
     "meta": {"next_loan": (2, 3, 4), "next_hold": (1, 5, 9), "next_line": (3, 4, 5)},
 }
 

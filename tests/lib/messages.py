@@ -26,9 +26,7 @@ SAYINGS = {
     "unsound reference barcodes ": (
         "the patron or copy with this number is missing, or has the barcode of another: restore a backup"
     ),
-    "unsound reference ": (
-        "a row of this table, whose key ends with this number, names a row that is missing: restore a backup"
-    ),
+    "unsound reference ": "a row of this table with this number names a row that is missing: restore a backup",
     **dict.fromkeys(
         ("unsound numbers rules ", "unsound numbers loans ", "unsound numbers holds "),
         "this table has a row with this number, though only libraries of older schemas have rows there: restore a "

@@ -197,8 +197,7 @@ pub(crate) const BARCODES: &str =
      backup";
 
 pub(crate) const REFERENCE: &str =
-    "a row of this table, whose key ends with this number, names a row that is missing: \
-     restore a backup";
+    "a row of this table with this number names a row that is missing: restore a backup";
 
 pub(crate) const NUMBERS: &str =
     "the row of this table with this number is missing, or there though the number was not \
