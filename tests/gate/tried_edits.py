@@ -74,6 +74,7 @@ UNREAD = {
 # What a gate may have said when edits are tried beside it: what the crate's edits come to.
 BESIDE = {
     "10:00:00 command: rt ci\n10:01:00 rt: numbers proved\n": ("1 passed, 0 failed", 0),
+    "10:00:00 command: rt ci\n10:01:00 rt: numbers is kept: an earlier run proved it\n": ("1 passed, 0 failed", 0),
     "10:00:00 command: rt ci\n10:01:00 whole: 60.0 s, 60.0 processor s, 4 processors, status 0, begun at 0\n": ("1 passed, 0 failed", 0),
     "10:00:00 command: rt ci\n10:01:00 rt: numbers proved\n10:02:00 whole: 120.0 s, 60.0 processor s, 4 processors, status 1, begun at 0\n": ("edits: the gate failed", 1),
 }
