@@ -9,6 +9,7 @@ _circ() {
     1:*) mapfile -t COMPREPLY < <(compgen -W "file import report audit migrate serve send help" -- "$word") ;;
     2:import) mapfile -t COMPREPLY < <(compgen -W --check -- "$word"; compgen -f -- "$word") ;;
     2:file | 2:report | 2:audit | 2:migrate | 2:serve | 3:import) mapfile -t COMPREPLY < <(compgen -f -- "$word") ;;
+    3:audit) mapfile -t COMPREPLY < <(compgen -W all -- "$word") ;;
     3:report) mapfile -t COMPREPLY < <(compgen -W "overdue till shelf" -- "$word") ;;
     # the commands as the program lists them
     4:file | 5:send)

@@ -4,12 +4,12 @@
     tests/gate/audit.py            all of it
     tests/gate/audit.py SEED       the random damage by that seed
 
-The laws stand below once more in plain Python, written from docs/RULES.md (`laws_of`). The damage of `DAMAGE` has
-answers that were worked out by hand, and one damage at least for each case of each law; the random damage is compared
-with `laws_of` alone.
+The laws stand below once more in plain Python, written from docs/RULES.md (`findings_of`), which finds all that breaks
+them. The damage of `DAMAGE` has answers that were worked out by hand, and one damage at least for each case of each
+law, and so has that of `SEVERAL`, for the audit that goes on to all findings; the random damage is compared with
+`findings_of` alone.
 """
 
-import itertools
 import os
 import random
 import shutil
@@ -17,11 +17,13 @@ import sqlite3
 import subprocess
 import sys
 import tempfile
+from collections import Counter
 from concurrent.futures import ThreadPoolExecutor
 from contextlib import closing
 
 from room import TOP
 from lib.checking import check, part, run_script
+from lib.messages import message
 from lib.runs import CIRC, GROUND, circ, digest, memory_of, rows, say, whole, write
 
 # After the small library: a loan that ended with a fine, which was paid and waived in part, a copy on loan, one that
@@ -404,9 +406,10 @@ NUMBERED = (("loans3", "loan", "next_loan"), ("holds2", "hold", "next_hold"), ("
 
 
 def unreferred(read):
-    """The line of the first table with a row that names a missing one, and of the least such row; else None."""
+    """The lines of rows that name a missing one, table by table, of each the numbers in order."""
     others = {other for _, _, named in NAMED for other in named.values()}
     there = {other: {key for key, in read(f"SELECT rowid FROM {other}")} for other in others}
+    lines = []
     for table, last, named in NAMED:
         wrong = set()
         for column, other in named.items():
@@ -415,35 +418,32 @@ def unreferred(read):
         if table == "barcodes":
             cells = read("SELECT sort, number FROM barcodes")
             wrong = {number for sort, number in cells if number not in there[THINGS[sort]]}
-        if wrong:
-            return f"unsound reference {table} {min(wrong)}"
-    return None
+        lines += [f"unsound reference {table} {number}" for number in sorted(wrong)]
+    return lines
 
 
 def misnumbered(read):
-    """The line of the first table with a wrong number; None where there is none."""
+    """The lines of numbers that were given and have no row, or weren't and have one, table by table."""
+    lines = []
     for table, key, column in NUMBERED:
         ((following,),) = read(f"SELECT {column} FROM meta")
-        given = {number for number, in read(f"SELECT {key} FROM {table}")}
-        gap = next(number for number in itertools.count(1) if number not in given)
-        wrong = [gap] if gap < following else [number for number in given if number >= following]
-        if wrong:
-            return f"unsound numbers {table} {min(wrong)}"
-    return None
+        wrong = {number for number, in read(f"SELECT {key} FROM {table}")} ^ set(range(1, following))
+        lines += [f"unsound numbers {table} {number}" for number in sorted(wrong)]
+    return lines
 
 
 def doubled(read):
-    """The line of the first patron or copy, patrons first, with the barcode of one before; else None."""
-    seen = set()
+    """The lines of patrons and copies, patrons first, with the barcode of one before."""
+    seen, lines = set(), []
     for number, barcode in read("SELECT number, barcode FROM barcodes ORDER BY sort, number"):
         if barcode in seen:
-            return f"unsound reference barcodes {number}"
+            lines.append(f"unsound reference barcodes {number}")
         seen.add(barcode)
-    return None
+    return lines
 
 
-def laws_of(path):
-    """The line of an audit, by the laws in plain Python."""
+def findings_of(path):
+    """The lines of all that breaks the laws in plain Python, in the order of an audit."""
     with closing(sqlite3.connect(path)) as conn:
         def read(text):
             return conn.execute(text).fetchall()
@@ -453,19 +453,17 @@ def laws_of(path):
         holds = {hold: row for hold, *row in read("SELECT hold, title, branch, state, copy, limit_day FROM holds2")}
         owed, lines = dict(read("SELECT patron, owed FROM patrons")), read("SELECT patron, sort, amount FROM lines")
         old = {"rules": read("SELECT kind, copy_kind FROM rules"), "loans": read("SELECT loan FROM loans"), "holds": read("SELECT hold FROM holds")}
-        later = unreferred(read) or misnumbered(read) or doubled(read)
+        later = unreferred(read) + misnumbered(read) + doubled(read)
 
     claims = [copy for copy, ended in loans if ended is None] + [copy for copy, *_ in transits]
     claims += [copy for _, _, state, copy, _ in holds.values() if state == READY and copy is not None]
     claims += [copy for copy, (_, condition) in copies.items() if condition != 0]
-    twice = [copy for copy in set(claims) if claims.count(copy) > 1]
-    if twice:
-        return f"unsound claims {min(twice)}"
+    found = [f"unsound claims {copy}" for copy, many in sorted(Counter(claims).items()) if many > 1]
 
     def is_of(copy, title):
         return copy in copies and copies[copy][0] == title
 
-    unbound = set()
+    unbound, serving = set(), Counter(hold for _, _, hold in transits)
     for hold, (title, _, state, copy, limit) in holds.items():
         named = copy is not None and limit is not None and is_of(copy, title) if state == READY else copy is None and limit is None
         if not named:
@@ -473,31 +471,46 @@ def laws_of(path):
     for copy, goal, hold in transits:
         if hold is not None:
             title, branch, state, _, _ = holds.get(hold, (None,) * 5)
-            if state != WAITING or branch != goal or not is_of(copy, title) or [it for _, _, it in transits].count(hold) > 1:
+            if state != WAITING or branch != goal or not is_of(copy, title) or serving[hold] > 1:
                 unbound.add(hold)
-    if unbound:
-        return f"unsound binding {min(unbound)}"
+    found += [f"unsound binding {hold}" for hold in sorted(unbound)]
 
-    def due(patron):
-        return sum(amount if sort in (FINE, PRICE, CHARGE) else -amount for who, sort,
-                   amount in lines if who == patron)
+    due = Counter()
+    for who, sort, amount in lines:
+        due[who] += amount if sort in (FINE, PRICE, CHARGE) else -amount
+    found += [f"unsound balance {patron}" for patron in sorted(owed) if owed[patron] != due[patron]]
+    return found + later + [f"unsound numbers {table} {min(keys)[-1]}" for table, keys in old.items() if keys][:1]
 
-    unbalanced = [patron for patron, amount in owed.items() if amount != due(patron)]
-    if unbalanced:
-        return f"unsound balance {min(unbalanced)}"
-    if later:
-        return later
-    return next((f"unsound numbers {table} {min(keys)[-1]}" for table, keys in old.items() if keys), "sound")
+
+def laws_of(path):
+    """The line of an audit that ends at the first finding."""
+    return (findings_of(path) or ["sound"])[0]
 
 
 def status_of(line):
     return 0 if line == "sound" else 3 if line.startswith("fault") else 2
 
 
+# So many findings are told at most.
+MOST_FINDINGS = 1_000
+
+
+def audit_all(path, lines, what):
+    """The audit of the file that goes on to all findings tells the first of these lines, as many as may be, and on
+    standard error what each means."""
+    words = ["audit", path, "all"]
+    out = "".join(f"{line}\n" for line in lines[:MOST_FINDINGS])
+    run = subprocess.run([CIRC, *words], capture_output=True, timeout=600)
+    check(f"all findings after {what}", (run.stdout.decode(), run.returncode), (out, status_of(lines[0])))
+    check(f"what they mean after {what}", run.stderr, message(words, out))
+
+
 def audit(path, line, what):
-    """The audit of the file is this line, with its status, and changes no byte of it."""
+    """The audit of the file is this line, with its status, all findings are those of the laws in plain Python, and no
+    byte of the file is changed."""
     before = digest(path)
     check(f"the audit after {what}", circ(["audit", path]), (line, status_of(line)))
+    audit_all(path, [line] if line.startswith("fault") else findings_of(path) or ["sound"], what)
     check(f"the file after {what}", digest(path), before)
 
 
@@ -517,6 +530,45 @@ def found(library, folder, at, texts, line):
     write(path, *texts)
     check(f"the laws in plain Python after {texts}", laws_of(path), line)
     os.remove(path)
+
+
+def several(library, folder, at, texts, lines):
+    """A copy of the library with these texts run on it: these are all findings, in plain Python too."""
+    path = os.path.join(folder, f"several{at}.db")
+    shutil.copy(library, path)
+    write(path, *texts)
+    audit_all(path, lines, texts)
+    check(f"all that breaks the laws in plain Python after {texts}", findings_of(path) or ["sound"], lines)
+    os.remove(path)
+
+
+def a_damaged_old_row(library, folder):
+    """A damaged row in a table of older schemas is found by the audit that goes on to its end alone, where a law is
+    broken."""
+    path = os.path.join(folder, "old.db")
+    shutil.copy(library, path)
+    write(path, OLD_LOAN.format(1), "UPDATE loans SET due = 84006", "UPDATE patrons SET owed = 51 WHERE patron = 1")
+    check("the first finding beside a damaged row", circ(["audit", path]), ("unsound balance 1", 2))
+    audit_all(path, ["fault 93"], "a damaged old row")
+    os.remove(path)
+
+
+def more_than_may_be(large, folder):
+    """Of more findings than may be told the first are: of one law, of several, and of barcodes behind them."""
+    path = os.path.join(folder, "more.db")
+    for texts in (["UPDATE patrons SET owed = owed + 1"], ["DELETE FROM titles"], ["UPDATE meta SET next_loan = 9000, next_hold = 1, next_line = 1"],
+                  [f"UPDATE copies SET condition = 2 WHERE copy < {FIRST + 600}", "UPDATE patrons SET owed = owed + 1", OLD_HOLD.format(7)],
+                  [f"UPDATE copies SET condition = 2 WHERE copy BETWEEN {FIRST} AND {FIRST + 998}", "UPDATE meta SET next_line = 1"],
+                  [f"UPDATE copies SET condition = 2 WHERE copy BETWEEN {FIRST} AND {FIRST + 997}", "UPDATE barcodes SET barcode = 'A1' WHERE number < 10003"],
+                  [f"UPDATE copies SET condition = 2 WHERE copy BETWEEN {FIRST} AND {FIRST + 998}", OLD_HOLD.format(7)],
+                  [f"UPDATE copies SET condition = 2 WHERE copy BETWEEN {FIRST} AND {FIRST + 999}", OLD_HOLD.format(7)],
+                  ["UPDATE barcodes SET barcode = 'A1'"]):
+        shutil.copy(large, path)
+        write(path, *texts)
+        lines = findings_of(path)
+        check(f"as many findings as may be told after {texts}", len(lines) >= MOST_FINDINGS, True)
+        audit_all(path, lines, texts)
+        os.remove(path)
 
 
 def fill(path):
@@ -602,6 +654,33 @@ def lost_output(library):
     with open("/dev/full", "wb") as full:
         check("a full disk", subprocess.run([CIRC, "audit", library], stdout=full, timeout=120).returncode, 3)
 
+
+# What is written into the busy library, and all findings.
+SEVERAL = [
+    ([], ["sound"]),
+    # several numbers of a law
+    (["UPDATE copies SET condition = 1 WHERE copy IN (10, 20, 30)"], ["unsound claims 10", "unsound claims 20", "unsound claims 30"]),
+    (["UPDATE patrons SET owed = owed + 1"], ["unsound balance 1", "unsound balance 2", "unsound balance 3"]),
+    ([LOAN.format(3, 65535), LOAN.format(4, 65535), LOAN.format(5, 65536), LOAN.format(6, 65536), LOAN.format(7, 9999999), LOAN.format(8, 9999999)],
+     ["unsound claims 65535", "unsound claims 65536", "unsound claims 9999999", *(f"unsound reference loans3 {loan}" for loan in range(3, 9)),
+      *(f"unsound numbers loans3 {loan}" for loan in range(3, 9))]),
+    (["UPDATE transits SET hold = 2147483647 WHERE copy = 20"], ["unsound binding 2147483647", "unsound reference transits 20"]),
+    # a law after each law, and tables of one
+    (["UPDATE copies SET condition = 1 WHERE copy = 30", "UPDATE holds2 SET limit_day = NULL WHERE hold = 2", "UPDATE patrons SET owed = 51, kind = 9 WHERE patron = 1",
+      "UPDATE copies SET home = 9 WHERE copy = 40", "UPDATE meta SET next_loan = 5, next_hold = 4"],
+     ["unsound claims 30", "unsound binding 2", "unsound balance 1", "unsound reference patrons 1", "unsound reference copies 40", "unsound numbers loans3 3",
+      "unsound numbers loans3 4", "unsound numbers holds2 4"]),
+    (["DELETE FROM titles WHERE title IN (100, 300)"],
+     ["unsound reference copies 10", "unsound reference copies 11", "unsound reference copies 30", "unsound reference holds2 2", "unsound reference holds2 3"]),
+    # numbers without a row, and rows without a number
+    (["UPDATE loans3 SET loan = 7 WHERE loan = 2", "UPDATE meta SET next_loan = 5"],
+     ["unsound numbers loans3 2", "unsound numbers loans3 3", "unsound numbers loans3 4", "unsound numbers loans3 7"]),
+    (["UPDATE meta SET next_loan = 1, next_line = 3"], ["unsound numbers loans3 1", "unsound numbers loans3 2", "unsound numbers lines 3"]),
+    # barcodes, and a row of an older schema, whatever comes before them: of those the first one alone
+    ([BARCODE.format(0, 2, "A1"), BARCODE.format(0, 3, "A1"), BARCODE.format(1, 10, "A1"), BARCODE.format(1, 99, "B2"), "UPDATE meta SET next_loan = 2"],
+     ["unsound reference barcodes 99", "unsound numbers loans3 2", "unsound reference barcodes 3", "unsound reference barcodes 10"]),
+    ([OLD_HOLD.format(1), OLD_HOLD.format(2), OLD_LOAN.format(2), "UPDATE patrons SET owed = 51 WHERE patron = 1"], ["unsound balance 1", "unsound numbers loans 2"]),
+]
 
 # Columns with the values that the random damage gives them, most of them within the limits.
 COLUMNS = {
@@ -711,6 +790,9 @@ def main(arguments):
         with ThreadPoolExecutor(os.cpu_count()) as pool:
             list(pool.map(lambda job: part(damaged, job[0], folder, *job[1:]), jobs))
             list(pool.map(lambda job: part(found, job[0], folder, *job[1:]), by_laws))
+            list(pool.map(lambda it: part(several, busy, folder, it[0], *it[1]), enumerate(SEVERAL)))
+        part(a_damaged_old_row, busy, folder)
+        part(more_than_may_be, large, folder)
         part(unseen_rows)
         part(the_past, ground, folder)
         part(no_library, folder)

@@ -153,6 +153,8 @@ BAD_WORDS = [
     ["report", "FILE", "sums", "1"],
     ["audit"],
     ["audit", "FILE", "again"],
+    ["audit", "FILE", "all", "all"],
+    ["audit", "FILE", "All"],
     ["", "", "", ""],
     ["file", "FILE", "", "begin-day", "2026-03-03"],
     ["file", "FILE", "k" * 41, "begin-day", "2026-03-03"],

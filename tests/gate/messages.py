@@ -83,7 +83,7 @@ def words_of_commands(path):
 
 def words_of_runs(path):
     """Words that are no run."""
-    for words in ([], ["file", path, "k1"], ["import", path], ["import", "--check"], ["import", "--check", path, path], ["migrate"], ["migrate", path, "again"], ["serve", path, "1", "1", "1"]):
+    for words in ([], ["file", path, "k1"], ["import", path], ["import", "--check"], ["import", "--check", path, path], ["audit", path, "one"], ["audit", path, "all", "all"], ["migrate"], ["migrate", path, "again"], ["serve", path, "1", "1", "1"]):
         asks(words, NOT_UNDERSTOOD)
     for key in ("", "k 1", "k" * 41):
         asks(["file", path, key, "page", "1"], NOT_UNDERSTOOD)
@@ -116,6 +116,7 @@ def lines_of_runs(place, path):
     asks(["import", copies, path], "fault 91\n")
     asks(["import", os.path.join(place, "swapped.db"), path], "row 0 bad\naccepted 0 refused 0\n")
     asks(["send", "1", "deskkey00001", "k1", "page", "1"], "fault network\n")
+    asks(["audit", path, "all"], "sound\n")
     asks(["migrate", path], f"schema {SCHEMA}\n")
     with open("/dev/full", "wb") as full:
         run = subprocess.run([PROGRAM, "file", path, "k3", "page", "9"], stdout=full, stderr=subprocess.PIPE, timeout=120, check=False)
@@ -132,7 +133,7 @@ def files_of_nobody(place):
     with closing(sqlite3.connect(foreign)) as conn:
         conn.execute("CREATE TABLE notes (text TEXT)")
         conn.commit()
-    for words in (["report", "shelf", "1"], ["audit"], ["migrate"]):
+    for words in (["report", "shelf", "1"], ["audit"], ["audit", "all"], ["migrate"]):
         run = [words[0], "", *words[1:]]
         for path, number, said in ((empty, 93, "the file has no bytes"), (absent, 93, "no such file or directory"), (garbage, 91, NO_DATABASE), (foreign, 93, FOREIGN)):
             run[1] = path

@@ -60,7 +60,7 @@ NO_KEYS = "the file can't be read"
 OPEN_KEYS = "other users may read these keys: take that from them with chmod o-r"
 NOT_UNDERSTOOD = "words not understood\n"
 UNWRITTEN = b"circ: standard output can't be written\n"
-RUNS = ["file", "import", "import", "report", "report", "report", "audit", "migrate", "serve", "send"]
+RUNS = ["file", "import", "import", "report", "report", "report", "audit", "audit", "migrate", "serve", "send"]
 
 
 def read(path):
@@ -138,6 +138,8 @@ def wrong_argument(words):
     """The first word of a run that isn't in its form: its name and what it has to be. None where all are, or their
     number is wrong."""
     run, given = words[0], words[1:]
+    if run == "audit" and len(given) == 2 and given[1] != "all":
+        return "the word after LIBRARY", "all"
     if run not in COUNTS or (len(given) <= COUNTS[run] if run in ("file", "send") else len(given) != COUNTS[run]):
         return None
     if run == "report" and given[1] not in ARGUMENTS:
@@ -148,11 +150,16 @@ def wrong_argument(words):
     return None
 
 
+def is_whole_audit(words):
+    """Whether an audit goes on to all findings."""
+    return words[:1] == ["audit"] and words[2:] == ["all"]
+
+
 def is_run(words):
     """Whether the first words are those of a run."""
     if not words or words[0] not in COUNTS:
         return False
-    many = len(words) - 1
+    many = len(words) - (2 if is_whole_audit(words) else 1)
     return (many > COUNTS[words[0]] if words[0] in ("file", "send") else many == COUNTS[words[0]]) and wrong_argument(words) is None
 
 
@@ -241,6 +248,13 @@ def of_rows(words, out):
     return "".join(f"circ: row {number}: {found[number]}\n" for number in bad)
 
 
+def of_findings(out):
+    """What is said of all findings of an audit: what each means."""
+    found = [line for line in out.split("\n") if line.startswith("unsound ")]
+    said = [next(it for begin, it in SAYINGS.items() if line.startswith(begin)) for line in found]
+    return "".join(f"circ: {line.removeprefix('unsound ')}: {it}\n" for line, it in zip(found, said))
+
+
 def is_held(path):
     """Whether another process has the locks of a database."""
     with open(path, "rb+") as file:
@@ -323,7 +337,9 @@ def message(words, out, held=None, made=False, closed=None):
     numbers = re.findall(r"\d+", line)
     if words and words[0] == "import":
         said += of_rows(words, out)
-    if line.endswith(" bad"):
+    if is_whole_audit(words):
+        said += of_findings(out)
+    if line.endswith(" bad") or is_whole_audit(words) and line.startswith("unsound "):
         pass
     elif sayings:
         said += f"circ: {sayings[0]}\n"

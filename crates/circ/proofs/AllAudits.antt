@@ -1,7 +1,7 @@
 -- What an audit that goes on to its end finds and writes.
 use Rattle.std.proofs.Common.{◌≡◌, ◌⊎◌, ◌+◌, ◌-◌, ◌<◌, ℕ, Bool, true, false, List, [], ◌∷◌, ◌++◌, length, inl, inr, refl, sym, ◌∙◌, ap, subst, arith, true≢false}
-use Rattle.std.proofs.lemmas.Bool.{lt-ltb}
-use Rattle.std.specs.Prelude.{Contains, Ok, Option, Some, None, MatchOption, if◌then◌else◌}
+use Rattle.std.proofs.lemmas.Bool.{lt-ltb, eqb-true, and_parts}
+use Rattle.std.specs.Prelude.{◌==◌, ◌&&◌, Contains, Ok, Option, Some, None, is_none, MatchOption, if◌then◌else◌}
 use Rattle.circ_tables.specs.Encoding.{HasPicture}
 use Rattle.store.specs.Library.{Ghosts, Held, state, HasCleanDisk, HasTables, IsAsItWas}
 use Rattle.store.specs.Legal.{AnswersLegal}
@@ -77,8 +77,13 @@ nothing-parts : (broken : List Finding) (doubled : List ℕ) (old : Option OldRo
     → (broken ≡ []) × (doubled ≡ []) × (old ≡ None)
 nothing-parts [] [] None e = (refl, refl, refl)
 nothing-parts [] [] (Some row) e = let never : ⊥ = cc in absurd never
-nothing-parts [] (n ∷ doubled) old e = let never : ⊥ = cc in absurd never
-nothing-parts (finding ∷ broken) doubled old e = let never : ⊥ = cc in absurd never
+nothing-parts [] (n ∷ doubled) old e =
+    let zero : length (n ∷ doubled) ≡ 0 = eqb-true (length (n ∷ doubled)) 0 (and_parts (length (n ∷ doubled) == 0) (is_none old) e).0 in
+    absurd (omega (arith, zero))
+nothing-parts (finding ∷ broken) doubled old e =
+    let zero : length (finding ∷ broken) ≡ 0 = eqb-true (length (finding ∷ broken)) 0
+    (and_parts (length (finding ∷ broken) == 0) ((length doubled == 0) && is_none old) e).0 in
+    absurd (omega (arith, zero))
 
 -- ---- what is found
 

@@ -13,5 +13,6 @@ mod SoundBalances
 mod SoundReferences
 mod WholeTables
 mod Audits
+mod AllAudits
 mod Migrations
 pub mod Keys

@@ -24,7 +24,7 @@ pub enum Series {
 
 impl Series {
     /// Returns the next one in the order of the audit.
-    pub fn next(self) -> Option<Series>
+    pub(crate) fn next(self) -> Option<Series>
         ensures { MatchOption result (place_of_series self ≡ 2)
             (λ next. place_of_series next ≡ place_of_series self + 1) }
     {

@@ -25,7 +25,7 @@ pub enum Part {
 
 impl Part {
     /// Returns the next part in the order of the audit.
-    pub fn next(self) -> Option<Part>
+    pub(crate) fn next(self) -> Option<Part>
         ensures { MatchOption result ((part : Part) → place_of_part part ≤ place_of_part self)
             (λ next. place_of_part next ≡ place_of_part self + 1) }
     {

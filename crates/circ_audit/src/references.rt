@@ -47,7 +47,7 @@ pub enum Table {
 
 impl Table {
     /// Returns the next table in the order of the audit.
-    pub fn next(self) -> Option<Table>
+    pub(crate) fn next(self) -> Option<Table>
         ensures { MatchOption result (place_of_table self ≡ 10)
             (λ next. place_of_table next ≡ place_of_table self + 1) }
     {
