@@ -220,6 +220,18 @@ fn read_report_run<'a>(words: &'a [String]) -> Option<Run<'a>>
 /// The word behind a library's path if an audit goes on to all findings.
 const ALL: &str = "all";
 
+/// Returns the audit of all findings of the library there, if that is the word for it.
+fn audit_with<'a>(path: &'a str, word: &str) -> Option<Run<'a>>
+    ensures { let asked = codes "audit" ∷ path.now ∷ word.now ∷ [] in
+        MatchOption result (IsNoRun asked) (IsRun asked) }
+{
+    if word == ALL {
+        Some(Run::AuditAll { path })
+    } else {
+        None
+    }
+}
+
 /// Reads an audit: exactly one path, or a path and the word for all findings.
 fn read_audit_run<'a>(words: &'a [String]) -> Option<Run<'a>>
     ensures { let asked = codes "audit" ∷ texts_of words.now in
@@ -229,9 +241,7 @@ fn read_audit_run<'a>(words: &'a [String]) -> Option<Run<'a>>
         [path] => Some(Run::Audit {
             path: path.as_str(),
         }),
-        [path, all] if all.as_str() == ALL => Some(Run::AuditAll {
-            path: path.as_str(),
-        }),
+        [path, word] => audit_with(path.as_str(), word.as_str()),
         _ => None,
     }
 }
