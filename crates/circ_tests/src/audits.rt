@@ -1,6 +1,6 @@
 //! Audits of tables in memory: a desk's, and some that no database would hold.
 
-use crate::calls::{audit, laws, tables_of};
+use crate::calls::{audit, audit_all, laws, tables_of};
 use circ::{Exit, WriteFault};
 use circ_audit::Finding;
 use desk::Desk;
@@ -34,6 +34,19 @@ fn tells<S: Alter>(
     let mut bytes: Vec<u8> = Vec::new(alloc);
     assert!(rt; audit(store, alloc, &mut bytes) == Ok(exit), "{line}");
     assert!(rt; bytes.as_slice() == line.as_bytes(), "{line}");
+    Ok(())
+}
+
+/// The same of an audit of all findings.
+fn tells_all<S: Alter>(
+    rt: &impl Abort,
+    alloc: Global,
+    store: &mut Store<S>,
+    (lines, exit): (&str, Exit),
+) -> Result<(), Fail> {
+    let mut bytes: Vec<u8> = Vec::new(alloc);
+    assert!(rt; audit_all(store, alloc, &mut bytes) == Ok(exit), "{lines}");
+    assert!(rt; bytes.as_slice() == lines.as_bytes(), "{lines}");
     Ok(())
 }
 
@@ -101,6 +114,58 @@ fn the_line_of_an_audit_is_cut(rt: HostRuntime) -> Result<(), Fail> {
             "at {room}"
         );
         let is_beginning = line.as_bytes().starts_with(writer.taken());
+        assert!(rt; is_beginning && writer.taken().len() == room, "at {room}");
+    }
+    Ok(())
+}
+
+/// The lines of the library with what is damaged below.
+const DAMAGED: &str = "unsound claims 30
+unsound balance 1
+unsound balance 2
+unsound balance 3
+unsound reference closed_days 20600
+unsound reference barcodes 3
+unsound numbers holds 8
+";
+
+/// The busy library after another hand.
+fn damaged(alloc: Global) -> Result<Store<MemStore>, Fail> {
+    let mut conn = connection(busy(alloc)?);
+    conn.execute("UPDATE copies SET condition = 2 WHERE copy = 30", &[])?;
+    conn.execute("UPDATE patrons SET owed = 1", &[])?;
+    conn.execute("INSERT INTO closed_days VALUES (9, 20600)", &[])?;
+    conn.execute("INSERT INTO barcodes VALUES (0, 2, 'A1')", &[])?;
+    conn.execute("INSERT INTO barcodes VALUES (0, 3, 'A1')", &[])?;
+    conn.execute(
+        "INSERT INTO holds VALUES (8, 1, 100, 1, 3, NULL, NULL)",
+        &[],
+    )?;
+    Ok(open(conn)?)
+}
+
+#[test]
+fn tells_all_that_is_broken(rt: HostRuntime) -> Result<(), Fail> {
+    let alloc = rt.alloc();
+    let mut store = store_of(busy(alloc)?);
+    tells_all(&rt, alloc, &mut store, ("sound\n", Exit::Done))?;
+    store.limit_steps(Some(1));
+    tells_all(&rt, alloc, &mut store, ("fault 91\n", Exit::Faulted))?;
+    let mut store = damaged(alloc)?;
+    tells_all(&rt, alloc, &mut store, (DAMAGED, Exit::Refused))
+}
+
+#[test]
+fn the_lines_of_all_findings_are_cut(rt: HostRuntime) -> Result<(), Fail> {
+    let alloc = rt.alloc();
+    let mut store = damaged(alloc)?;
+    for room in 0..DAMAGED.len() {
+        let mut writer = Narrow::new(alloc, room);
+        assert!(rt;
+            audit_all(&mut store, alloc, &mut writer) == Err(WriteFault),
+            "at {room}"
+        );
+        let is_beginning = DAMAGED.as_bytes().starts_with(writer.taken());
         assert!(rt; is_beginning && writer.taken().len() == room, "at {room}");
     }
     Ok(())

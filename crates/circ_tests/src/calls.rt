@@ -43,6 +43,15 @@ pub fn audit<S: Alter, W: Write>(
     circ::audit(store, alloc, writer)
 }
 
+/// Audits a library to its end, and writes the lines.
+pub fn audit_all<S: Alter, W: Write>(
+    store: &mut Store<S>,
+    alloc: Global,
+    writer: &mut W,
+) -> Result<Exit, WriteFault> {
+    circ::audit_all(store, alloc, writer).1
+}
+
 /// All rows of a store.
 pub fn tables_of<S: Alter>(store: &mut Store<S>, alloc: Global) -> Result<Tables, Fault> {
     store.tables(alloc)

@@ -91,7 +91,8 @@ fn a_read_that_fails_ends_a_check(rt: HostRuntime) -> Result<(), Fail> {
         unchecked(&mut told)?,
     );
     assert!(rt; ends == (Exit::Faulted, Exit::Faulted));
-    assert!(rt; told.as_slice() == b"fault reading\ngood 3 bad 0\nfault reading\ngood 0 bad 0\n");
+    let lines = "fault reading\ngood 3 bad 0\nfault reading\ngood 0 bad 0\n";
+    assert!(rt; told.as_slice() == lines.as_bytes());
     Ok(())
 }
 
