@@ -62,7 +62,8 @@ def refused_scans(driver, fake):
     desk.keys("2", Keys.ENTER, "5", Keys.ENTER, "9", Keys.ENTER)
     until("the first refusal", lambda: desk.items("waiting") == ["copy 5", "copy 9"] and desk.is_wrong())
     time.sleep(0.7)
-    ActionChains(driver).click(desk.it("send-on")).pause(0.3).click(desk.it("send-on")).perform()
+    twice = "const it = document.getElementById('send-on'); it.click(); setTimeout(() => it.click(), 450)"
+    driver.execute_script(twice)
     until("the second refusal", lambda: desk.told() == "copy 5: There is no such copy.")
     time.sleep(0.3)
     need("it is passed over by nobody", (desk.items("waiting"), "check-in 9 1" in fake.words()), (["copy 9"], False))
