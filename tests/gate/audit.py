@@ -556,12 +556,18 @@ def a_damaged_old_row(library, folder):
 def more_than_may_be(large, folder):
     """Of more findings than may be told the first are: of one law, of several, and of barcodes behind them."""
     path = os.path.join(folder, "more.db")
-    for texts in (["UPDATE patrons SET owed = owed + 1"], ["DELETE FROM titles"], ["UPDATE meta SET next_loan = 9000, next_hold = 1, next_line = 1"],
-                  [f"UPDATE copies SET condition = 2 WHERE copy < {FIRST + 600}", "UPDATE patrons SET owed = owed + 1", OLD_HOLD.format(7)],
-                  [f"UPDATE copies SET condition = 2 WHERE copy BETWEEN {FIRST} AND {FIRST + 998}", "UPDATE meta SET next_line = 1"],
-                  [f"UPDATE copies SET condition = 2 WHERE copy BETWEEN {FIRST} AND {FIRST + 997}", "UPDATE barcodes SET barcode = 'A1' WHERE number < 10003"],
-                  [f"UPDATE copies SET condition = 2 WHERE copy BETWEEN {FIRST} AND {FIRST + 998}", OLD_HOLD.format(7)],
-                  [f"UPDATE copies SET condition = 2 WHERE copy BETWEEN {FIRST} AND {FIRST + 999}", OLD_HOLD.format(7)],
+    for texts in (["UPDATE patrons SET owed = owed + 1"], ["DELETE FROM titles"],
+                  ["UPDATE meta SET next_loan = 9000, next_hold = 1, next_line = 1"],
+                  [f"UPDATE copies SET condition = 2 WHERE copy < {FIRST + 600}",
+                   "UPDATE patrons SET owed = owed + 1", OLD_HOLD.format(7)],
+                  [f"UPDATE copies SET condition = 2 WHERE copy BETWEEN {FIRST} AND {FIRST + 998}",
+                   "UPDATE meta SET next_line = 1"],
+                  [f"UPDATE copies SET condition = 2 WHERE copy BETWEEN {FIRST} AND {FIRST + 997}",
+                   "UPDATE barcodes SET barcode = 'A1' WHERE number < 10003"],
+                  [f"UPDATE copies SET condition = 2 WHERE copy BETWEEN {FIRST} AND {FIRST + 998}",
+                   OLD_HOLD.format(7)],
+                  [f"UPDATE copies SET condition = 2 WHERE copy BETWEEN {FIRST} AND {FIRST + 999}",
+                   OLD_HOLD.format(7)],
                   ["UPDATE barcodes SET barcode = 'A1'"]):
         shutil.copy(large, path)
         write(path, *texts)
@@ -659,27 +665,36 @@ def lost_output(library):
 SEVERAL = [
     ([], ["sound"]),
     # several numbers of a law
-    (["UPDATE copies SET condition = 1 WHERE copy IN (10, 20, 30)"], ["unsound claims 10", "unsound claims 20", "unsound claims 30"]),
+    (["UPDATE copies SET condition = 1 WHERE copy IN (10, 20, 30)"], ["unsound claims 10", "unsound claims 20",
+                                                                      "unsound claims 30"]),
     (["UPDATE patrons SET owed = owed + 1"], ["unsound balance 1", "unsound balance 2", "unsound balance 3"]),
     ([LOAN.format(3, 65535), LOAN.format(4, 65535), LOAN.format(5, 65536), LOAN.format(6, 65536), LOAN.format(7, 9999999), LOAN.format(8, 9999999)],
-     ["unsound claims 65535", "unsound claims 65536", "unsound claims 9999999", *(f"unsound reference loans3 {loan}" for loan in range(3, 9)),
+     ["unsound claims 65535", "unsound claims 65536", "unsound claims 9999999",
+      *(f"unsound reference loans3 {loan}" for loan in range(3, 9)),
       *(f"unsound numbers loans3 {loan}" for loan in range(3, 9))]),
-    (["UPDATE transits SET hold = 2147483647 WHERE copy = 20"], ["unsound binding 2147483647", "unsound reference transits 20"]),
+    (["UPDATE transits SET hold = 2147483647 WHERE copy = 20"], ["unsound binding 2147483647",
+                                                                 "unsound reference transits 20"]),
     # a law after each law, and tables of one
-    (["UPDATE copies SET condition = 1 WHERE copy = 30", "UPDATE holds2 SET limit_day = NULL WHERE hold = 2", "UPDATE patrons SET owed = 51, kind = 9 WHERE patron = 1",
+    (["UPDATE copies SET condition = 1 WHERE copy = 30", "UPDATE holds2 SET limit_day = NULL WHERE hold = 2",
+      "UPDATE patrons SET owed = 51, kind = 9 WHERE patron = 1",
       "UPDATE copies SET home = 9 WHERE copy = 40", "UPDATE meta SET next_loan = 5, next_hold = 4"],
-     ["unsound claims 30", "unsound binding 2", "unsound balance 1", "unsound reference patrons 1", "unsound reference copies 40", "unsound numbers loans3 3",
+     ["unsound claims 30", "unsound binding 2", "unsound balance 1", "unsound reference patrons 1",
+      "unsound reference copies 40", "unsound numbers loans3 3",
       "unsound numbers loans3 4", "unsound numbers holds2 4"]),
     (["DELETE FROM titles WHERE title IN (100, 300)"],
-     ["unsound reference copies 10", "unsound reference copies 11", "unsound reference copies 30", "unsound reference holds2 2", "unsound reference holds2 3"]),
+     ["unsound reference copies 10", "unsound reference copies 11", "unsound reference copies 30",
+      "unsound reference holds2 2", "unsound reference holds2 3"]),
     # numbers without a row, and rows without a number
     (["UPDATE loans3 SET loan = 7 WHERE loan = 2", "UPDATE meta SET next_loan = 5"],
      ["unsound numbers loans3 2", "unsound numbers loans3 3", "unsound numbers loans3 4", "unsound numbers loans3 7"]),
-    (["UPDATE meta SET next_loan = 1, next_line = 3"], ["unsound numbers loans3 1", "unsound numbers loans3 2", "unsound numbers lines 3"]),
+    (["UPDATE meta SET next_loan = 1, next_line = 3"], ["unsound numbers loans3 1", "unsound numbers loans3 2",
+                                                        "unsound numbers lines 3"]),
     # barcodes, and a row of an older schema, whatever comes before them: of those the first one alone
     ([BARCODE.format(0, 2, "A1"), BARCODE.format(0, 3, "A1"), BARCODE.format(1, 10, "A1"), BARCODE.format(1, 99, "B2"), "UPDATE meta SET next_loan = 2"],
-     ["unsound reference barcodes 99", "unsound numbers loans3 2", "unsound reference barcodes 3", "unsound reference barcodes 10"]),
-    ([OLD_HOLD.format(1), OLD_HOLD.format(2), OLD_LOAN.format(2), "UPDATE patrons SET owed = 51 WHERE patron = 1"], ["unsound balance 1", "unsound numbers loans 2"]),
+     ["unsound reference barcodes 99", "unsound numbers loans3 2", "unsound reference barcodes 3",
+      "unsound reference barcodes 10"]),
+    ([OLD_HOLD.format(1), OLD_HOLD.format(2), OLD_LOAN.format(2), "UPDATE patrons SET owed = 51 WHERE patron = 1"],
+     ["unsound balance 1", "unsound numbers loans 2"]),
 ]
 
 # Columns with the values that the random damage gives them, most of them within the limits.

@@ -545,7 +545,8 @@ def alerts(driver, fake):
 def returns(driver, fake):
     """A return with a fine, for a hold or for another branch looks and sounds unlike a plain one, and is told until
     the next scan."""
-    places = {"10": ("fine 0 shelf 1", "shelf 1", False), "11": ("fine 0 ready 7 at 1 until 2999-01-02", "shelf 1", True),
+    places = {"10": ("fine 0 shelf 1", "shelf 1", False), "11": ("fine 0 ready 7 at 1 until 2999-01-02", "shelf 1",
+                                                                 True),
               "12": ("fine 0 transit 2", "transit 2", True), "13": ("fine 20 shelf 1", "shelf 1", True)}
     fake.says(answers({f"{name} {copy}": reply(answer if name == "check-in" else f"{row} {copy} {rest}\n{place}")
                        for copy, (answer, place, _) in places.items() for name in ("check-in", "copy")
@@ -566,7 +567,8 @@ def returns(driver, fake):
         told = desk.scan(copy)
         chime = [["sine", 660], ["sine", 880]] if is_special else []
         until(f"copy {copy} is served", lambda: not desk.it("queue").is_displayed())
-        need(f"how {copy} looks and sounds", look(), [is_special, "rgb(122, 75, 0)" if is_special else "rgb(0, 92, 46)", chime])
+        need(f"how {copy} looks and sounds", look(), [is_special,
+                                                      "rgb(122, 75, 0)" if is_special else "rgb(0, 92, 46)", chime])
         time.sleep(0.5)
         need("it stays", (desk.told(), look()[0]), (told, is_special))
     desk.scan("99")
@@ -593,7 +595,8 @@ def two_columns(driver, fake):
     for pixels, is_beside in ((360, False), (999, False), (1000, True), (1280, True)):
         desk.width(pixels, 700)
         driver.execute_script("scrollTo(0, 0)")
-        (left, right, top), *work = driver.execute_script(edges, "person", "scanning", "told", "modes", "slips", "tabs", "list-table")
+        (left, right, top), *work = driver.execute_script(edges, "person", "scanning", "told", "modes", "slips",
+                                                          "tabs", "list-table")
         need(f"who is beside the work at {pixels} pixels", [it[1] <= left for it in work], [is_beside] * 6)
         need("each is on the screen", (right <= pixels, max(it[1] for it in work) <= pixels), (True, True))
         driver.execute_script("document.getElementById('list-rows').lastElementChild.scrollIntoView()")
