@@ -415,7 +415,7 @@ def watched(prefix, place):
             lines.append(send(f"a{len(lines)}", "acquire", str(len(lines) + 1), "1", "1", "1", "100", "Maps"))
         check("the fault that closes it", lines[-1], '{"fault":91}\n')
         said = [serving.stderr.readline() for _ in range(2)]
-        check("what is said while it serves", (said[0].startswith("circ: the desk is closed: the database refused a call"), "fault 92" in said[1], serving.poll()), (True, True, None))
+        check("what is said while it serves", (said[0].startswith("circ: the desk is closed: the database failed"), "fault 92" in said[1], serving.poll()), (True, True, None))
         check("a request after it", send("b", "branch", "2", "5", "Harbour"), '{"fault":92}\n')
         check("a page after it", send("p", "page", "1"), '{"refusal":11}\n')
         closed = '{"fault":92}'
