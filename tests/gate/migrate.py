@@ -656,7 +656,7 @@ def held(folder):
     check("migrations at work were met", met, 3)
 
 
-KILLS, LEAST = 400, 40  # so many libraries at most, and at least, have their migrations killed, until kills hit before and after the end of each transaction
+KILLS, LEAST = 1_200, 40  # so many libraries at most, and at least, have their migrations killed, until kills hit before and after the end of each transaction
 
 
 def killed(folder, name):
