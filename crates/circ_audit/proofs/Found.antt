@@ -92,9 +92,10 @@ module _ (t : Tables) (part : Part) (after : Option ℕ) (found : List Finding)
       go (inl less) = inl (omega (arith, less, same))
       go (inr is) = let equal = is.0 in let less = is.1 in inr (omega (arith, equal, same), omega (arith, less, low))
 
-  -- Where as many as may be are found, later ones are left out.
-  pub full-part : MOST_FINDINGS ≤ length found → AreFindingsBefore t (here + 1) 0 found
-  full-part full = record {
+  -- The part is done where each later finding of it keeps its law, was found or is left out.
+  part-over : ((finding : Finding) → place_of finding ≡ here → from ≤ number_of finding
+      → Keeps t finding ⊎ (Contains found finding ⊎ IsLeftOut found finding)) → AreFindingsBefore t (here + 1) 0 found
+  part-over later = record {
     broken = are.broken;
     ordered = are.ordered;
     few = are.few;
@@ -105,10 +106,14 @@ module _ (t : Tables) (part : Part) (after : Option ℕ) (found : List Finding)
       go : (finding : Finding) → IsBefore here from finding ⊎ ((place_of finding ≡ here) × (from ≤ number_of finding))
           → Keeps t finding ⊎ (Contains found finding ⊎ IsLeftOut found finding)
       go finding (inl before) = are.every finding before
-      go finding (inr is) = inr (inr (record {
-        full = (let few = are.few in omega (arith, few, full));
-        later = found-before finding is.0 is.1;
-      }))
+      go finding (inr is) = later finding is.0 is.1
+
+  -- Where as many as may be are found, later ones are left out.
+  pub full-part : MOST_FINDINGS ≤ length found → AreFindingsBefore t (here + 1) 0 found
+  full-part full = part-over (λ finding same low. inr (inr (record {
+    full = (let few = are.few in omega (arith, few, full));
+    later = found-before finding same low;
+  })))
 
   -- The law of a finding of this part.
   part-law : (finding : Finding) → place_of finding ≡ here → PartLaw t part (number_of finding) → Keeps t finding
@@ -116,18 +121,8 @@ module _ (t : Tables) (part : Part) (after : Option ℕ) (found : List Finding)
 
   -- Where the law holds for all later numbers, the part is done.
   pub done-part : ((n : ℕ) → HoldsAfter after (PartLaw t part) n) → AreFindingsBefore t (here + 1) 0 found
-  done-part law = record {
-    broken = are.broken;
-    ordered = are.ordered;
-    few = are.few;
-    among = λ k d within. before-next (get_or found k d) (are.among k d within);
-    every = λ finding before. go finding (of-part finding before);
-  }
-    where
-      go : (finding : Finding) → IsBefore here from finding ⊎ ((place_of finding ≡ here) × (from ≤ number_of finding))
-          → Keeps t finding ⊎ (Contains found finding ⊎ IsLeftOut found finding)
-      go finding (inl before) = are.every finding before
-      go finding (inr is) = inl (part-law finding is.0 (law (number_of finding) (comes-after after (number_of finding) is.1)))
+  done-part law = part-over (λ finding same low.
+      inl (part-law finding same (law (number_of finding) (comes-after after (number_of finding) low))))
 
   module _ (n : ℕ) (few : length found < MOST_FINDINGS) (fails : FailsAfter after (PartLaw t part) (Some n)) where
     abbrev new : Finding
